@@ -1,0 +1,6 @@
+mod Bits
+mod Writing
+mod Dividing
+mod Signalling
+mod Multiples
+mod Telling

@@ -1,0 +1,14 @@
+-- Numbers as bits, the highest sent first.
+use mathlib.Core.List.{List, [], _∷_, _++_}
+use Prim.Native.Nat.{ℕ, zero, suc, _/_, _%_}
+use Rattle.std.specs.shelf.Lists.{joined}
+use Rattle.tps.specs.declared.field.Field.{Field}
+
+-- the last w bits of a number, the highest first
+abbrev pub bits : ℕ → ℕ → List ℕ
+bits zero n = []
+bits (suc w) n = bits w (n / 2) ++ (n % 2 ∷ [])
+
+-- fields, one after another
+abbrev pub sent : List Field → List ℕ
+sent = joined (λ f. bits (f .width) (f .value))

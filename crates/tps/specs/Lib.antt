@@ -1,0 +1,4 @@
+pub mod Field
+pub mod Protection
+pub mod Block
+pub mod Laws
