@@ -12,7 +12,7 @@ use Rattle.std.proofs.shelf.Elements.{all-append}
 use Rattle.std.proofs.shelf.Tests.{le-leb}
 use Rattle.settings.specs.declared.Settings.{Settings}
 use Rattle.tps.specs.declared.field.Field.{Field}
-use Rattle.tps.specs.Field.{bits, sent}
+use Rattle.tps.specs.Field.{bits, field, put, sent}
 use Rattle.tps.specs.Protection.{remainder-from, parity}
 use Rattle.tps.specs.Block.{fields, information, block, refused}
 use Rattle.tps.proofs.Bits.{sent-binary, bits-binary, bits-length}
@@ -32,7 +32,7 @@ unfolding information
 fields-written s frame B b0 fs e e0 = e0 ∙ ap (λ (gs : List Field). sent gs ++ drop (length (sent gs)) B) e
 
 module _ (s : Settings) (frame : ℕ) (B b0 b1 : List ℕ) (e0 : b0 ≡ information s frame ++ drop 53 B)
-    (e1 : b1 ≡ take 53 b0 ++ (bits 14 0 ++ drop 67 b0)) where
+    (e1 : b1 ≡ put (field 14 0) 53 b0) where
   abbrev I : List ℕ
   I = information s frame
 
@@ -48,7 +48,7 @@ module _ (s : Settings) (frame : ℕ) (B b0 b1 : List ℕ) (e0 : b0 ≡ informat
   pub spaced-binary : All (λ b. b < 2) (I ++ bits 14 0)
   spaced-binary = all-append (λ b. b < 2) I (bits 14 0) (information-binary s frame) (bits-binary 14 0)
 
-  pub block-written : (r : ℕ) (b2 : List ℕ) → r ≡ remainder-from 0 (take 67 b1) → b2 ≡ take 53 b1 ++ (bits 14 r ++ drop 67 b1) → b2 ≡ block s frame ++ drop 67 B
+  pub block-written : (r : ℕ) (b2 : List ℕ) → r ≡ remainder-from 0 (take 67 b1) → b2 ≡ put (field 14 r) 53 b1 → b2 ≡ block s frame ++ drop 67 B
   unfolding block parity
   block-written r b2 er e2 =
       let again : b1 ≡ I ++ drop 53 b1 =

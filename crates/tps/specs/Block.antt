@@ -12,7 +12,7 @@ use Rattle.settings.specs.Constellation.{constellation-code}
 use Rattle.settings.specs.Rate.{rate-code}
 use Rattle.settings.specs.Guard.{guard-code}
 use Rattle.tps.specs.declared.field.Field.{Field}
-use Rattle.tps.specs.Field.{sent}
+use Rattle.tps.specs.Field.{field, sent}
 use Rattle.tps.specs.Protection.{parity}
 
 -- frames 1 and 3
@@ -32,9 +32,6 @@ length-indicator (Some identifier) = 0b011111
 abbrev pub identifier-byte : ℕ → Option ℕ → ℕ
 identifier-byte frame None = 0
 identifier-byte frame (Some identifier) = cond (odd frame) (identifier / 256) (identifier % 256)
-
-abbrev field : ℕ → ℕ → Field
-field w n = record { width = w; value = n }
 
 -- table 9, s1 to s53
 abbrev pub fields : Settings → ℕ → List Field

@@ -9,6 +9,12 @@ use super::protection::remainder;
 use refusal::Refusal;
 use settings::Settings;
 
+const INFORMATION_BITS: usize = 53;
+
+const PARITY_BITS: usize = 14;
+
+const BLOCK_BITS: usize = 67;
+
 fn synchronisation_word(frame: u8) -> u32
     ensures { λ r. ⌜ r ≡ synchronisation frame ⌝ }
 {
@@ -48,43 +54,18 @@ fn fields(settings: &Settings, frame: u8) -> [Field; 11]
     requires { ⌜ 1 ≤ frame ⌝ }
     ensures { λ r. ⌜ r ≡ fields-of (now (settings .entry)) frame ⌝ }
 {
-    let byte = byte_of(frame, settings.identifier);
     [
-        Field {
-            width: 16,
-            value: synchronisation_word(frame),
-        },
-        Field {
-            width: 6,
-            value: indicator(settings.identifier),
-        },
-        Field {
-            width: 2,
-            value: u32::from(frame - 1),
-        },
-        Field {
-            width: 2,
-            value: u32::from(settings.constellation.code()),
-        },
-        Field { width: 3, value: 0 },
-        Field {
-            width: 3,
-            value: u32::from(settings.rate.code()),
-        },
-        Field { width: 3, value: 0 },
-        Field {
-            width: 2,
-            value: u32::from(settings.guard.code()),
-        },
-        Field {
-            width: 2,
-            value: u32::from(settings.mode.code()),
-        },
-        Field {
-            width: 8,
-            value: byte,
-        },
-        Field { width: 6, value: 0 },
+        Field::new(16, synchronisation_word(frame)),
+        Field::new(6, indicator(settings.identifier)),
+        Field::new(2, u32::from(frame - 1)),
+        Field::new(2, u32::from(settings.constellation.code())),
+        Field::new(3, 0),
+        Field::new(3, u32::from(settings.rate.code())),
+        Field::new(3, 0),
+        Field::new(2, u32::from(settings.guard.code())),
+        Field::new(2, u32::from(settings.mode.code())),
+        Field::new(8, byte_of(frame, settings.identifier)),
+        Field::new(6, 0),
     ]
 }
 
@@ -93,21 +74,15 @@ pub fn write_block(settings: &Settings, frame: u8, buffer: &mut [u8]) -> Result<
     ensures answer { λ r. ⌜ refused-by r ≡ refused frame (now (buffer .entry)) ⌝ }
     ensures buffer { λ _. ⌜ now (buffer .exit) ≡ after (refused frame (now (buffer .entry))) (now (settings .entry)) frame (now (buffer .entry)) ⌝ }
 {
-    if frame < 1 || frame > 4 {
+    if !matches!(frame, 1..=4) {
         return Err(Refusal::FrameOrParity);
     }
-    if buffer.len() < 67 {
+    if buffer.len() < BLOCK_BITS {
         return Err(Refusal::BufferShort);
     }
     write_all(&fields(settings, frame), buffer);
-    Field {
-        width: 14,
-        value: 0,
-    }.write(buffer, 53);
-    let parity = remainder(&buffer[..67]);
-    Field {
-        width: 14,
-        value: parity,
-    }.write(buffer, 53);
+    Field::new(PARITY_BITS, 0).write(buffer, INFORMATION_BITS);
+    let parity = remainder(&buffer[..BLOCK_BITS]);
+    Field::new(PARITY_BITS, parity).write(buffer, INFORMATION_BITS);
     Ok(())
 }

@@ -1,9 +1,9 @@
 // Fields of a TPS block: numbers, each sent in so many bits, the highest first, one bit to a byte.
 ghost use mathlib.Core.List.{_++_};
 ghost use mathlib.Core.Path.{_≡_};
-ghost use Prim.Native.Nat.{_+_, _≤_, _^_, _<_};
-ghost use lib.ListN.{length, take, drop};
-ghost use Rattle.tps.specs.Field.{bits, sent};
+ghost use Prim.Native.Nat.{_+_, _≤_};
+ghost use lib.ListN.{length, drop};
+ghost use Rattle.tps.specs.Field.{field, put, sent};
 
 #[derive(Clone, Copy)]
 pub struct Field {
@@ -12,9 +12,15 @@ pub struct Field {
 }
 
 impl Field {
+    pub fn new(width: usize, value: u32) -> Field
+        ensures { λ r. ⌜ r ≡ field width value ⌝ }
+    {
+        Field { width, value }
+    }
+
     pub fn write(self, buffer: &mut [u8], at: usize)
         requires { ⌜ at + self .width ≤ length (now buffer) ⌝ }
-        ensures { λ _. ⌜ now (buffer .exit) ≡ take at (now (buffer .entry)) ++ (bits (self .width) (self .value) ++ drop (at + self .width) (now (buffer .entry))) ⌝ }
+        ensures { λ _. ⌜ now (buffer .exit) ≡ put self at (now (buffer .entry)) ⌝ }
     {
         let mut rest = self.value;
         for k in (0..self.width).rev() {
