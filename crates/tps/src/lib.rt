@@ -5,3 +5,6 @@ pub mod laws;
 mod protection;
 
 pub use block::write_block;
+
+#[cfg(test)]
+mod tests;
