@@ -1,6 +1,6 @@
-mod Bits
-mod Writing
-mod Dividing
-mod Signalling
-mod Multiples
-mod Telling
+pub mod Bits
+pub mod Writing
+pub mod Dividing
+pub mod Signalling
+pub mod Multiples
+pub mod Telling

@@ -2,8 +2,7 @@
 use mathlib.Core.Path.{_≡_, refl, sym, ap, _∙_}
 use mathlib.Core.List.{List, _++_}
 use Prim.Native.Nat.{ℕ, _≤_, _<_}
-use lib.Dec.{leb}
-use lib.ListN.{length, take, drop, replicate, length-append}
+use lib.ListN.{length, take, drop, length-append}
 use native.Mathlib.Omega.{arith}
 use Rattle.std.specs.shelf.Lists.{All}
 use Rattle.std.specs.declared.option.Option.the-variants.{None}
@@ -15,7 +14,7 @@ use Rattle.tps.specs.declared.field.Field.{Field}
 use Rattle.tps.specs.Field.{bits, field, put, sent}
 use Rattle.tps.specs.Protection.{remainder-from, parity}
 use Rattle.tps.specs.Block.{fields, information, block, refused}
-use Rattle.tps.proofs.Bits.{sent-binary, bits-binary, bits-length}
+use Rattle.tps.proofs.Bits.{sent-binary, bits-binary}
 use Rattle.tps.proofs.Writing.{put-on}
 
 pub information-length : (s : Settings) (frame : ℕ) → length (information s frame) ≡ 53

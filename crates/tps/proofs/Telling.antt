@@ -1,7 +1,6 @@
 -- Blocks tell their fields, and the fields of frames 1 and 2 the settings.
 use mathlib.Core.Path.{_≡_, refl, sym, ap, subst, _∙_}
 use mathlib.Core.List.{List, [], _∷_, _++_, map}
-use mathlib.Core.Bool.{Bool}
 use Prim.Native.Nat.{ℕ, _-_, _/_, _%_, _^_, _≤_, _<_}
 use native.Mathlib.Omega.{arith}
 use lib.Dec.{lit<, lit≤}
@@ -30,11 +29,10 @@ use Rattle.settings.proofs.Reading.{codes-stand}
 use Rattle.tps.specs.declared.field.Field.{Field}
 use Rattle.tps.specs.Field.{bits, sent}
 use Rattle.tps.specs.Protection.{parity}
-use Rattle.tps.specs.Block.{odd, synchronisation, length-indicator, identifier-byte, fields, information, block, blocks}
+use Rattle.tps.specs.Block.{odd, length-indicator, identifier-byte, fields, information, block, blocks}
 use Rattle.tps.specs.Laws.{Identifier}
 use Rattle.tps.proofs.Bits.{bits-length, bits-same}
 use Rattle.tps.proofs.Writing.{no-field}
-use Rattle.tps.proofs.Signalling.{information-length}
 
 -- lists that are joined alike, whose first parts are as long
 split : (xs ys vs ws : List ℕ) → length xs ≡ length ys → xs ++ vs ≡ ys ++ ws → (xs ≡ ys) × (vs ≡ ws)
