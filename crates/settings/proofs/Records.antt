@@ -19,8 +19,7 @@ use Rattle.std.proofs.shelf.Tests.{cases-bool, cond-true, cond-false, and-parts
 use Rattle.refusal.specs.declared.Refusal.the-variants.{RecordMalformed}
 use Rattle.settings.specs.declared.Settings.{Settings}
 use Rattle.settings.specs.declared.codes.Codes.{Codes}
-use Rattle.settings.specs.Coded.{and-then}
-use Rattle.settings.specs.Codes.{settings-codes, settings-read}
+use Rattle.settings.specs.Codes.{and-then, settings-codes, settings-read}
 use Rattle.settings.specs.Record.{record-of, codes-in, identifier-part, headed, flagged, record-read, settings-from, Records-stand}
 use Rattle.settings.proofs.Reading.{accepted, codes-stand}
 

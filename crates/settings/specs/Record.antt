@@ -15,8 +15,7 @@ use Rattle.refusal.specs.declared.Refusal.{Refusal}
 use Rattle.refusal.specs.declared.Refusal.the-variants.{RecordMalformed}
 use Rattle.settings.specs.declared.Settings.{Settings}
 use Rattle.settings.specs.declared.codes.Codes.{Codes}
-use Rattle.settings.specs.Coded.{and-then}
-use Rattle.settings.specs.Codes.{settings-codes, settings-read}
+use Rattle.settings.specs.Codes.{and-then, settings-codes, settings-read}
 
 -- the flag, and the identifier's two bytes, the high one first
 abbrev pub identifier-part : Option ℕ → List ℕ
