@@ -21,6 +21,17 @@ impl Parity {
         Parity { register: 0 }
     }
 
+    // All bytes of a message have come.
+    pub fn of(message: &[u8]) -> Parity
+        ensures { λ r. ⌜ sixteen (r .register) ≡ remainder (now (message .entry)) ⌝ }
+    {
+        let mut parity = Parity::new();
+        for byte in message {
+            parity.push(*byte);
+        }
+        parity
+    }
+
     // One more byte of the message.
     pub fn push(&mut self, byte: u8)
         ensures { λ _. ⌜ sixteen (now (self .exit) .register) ≡ stepped (sixteen (now (self .entry) .register)) byte ⌝ }
