@@ -4,6 +4,8 @@ ghost use Rattle.reed.specs.Code.{Code-holds};
 pub mod packet;
 pub mod parity;
 mod rows;
+#[cfg(test)]
+mod tests;
 
 pub use packet::is_codeword;
 pub use packet::protect;

@@ -1,7 +1,8 @@
 // The parity of a message that comes byte by byte (EN 300 744, clause 4.3.2): the remainder of message(x) x^16 by g(x) so far.
 // Input: the message's bytes, first one highest. Output: sixteen bytes, first one highest.
 ghost use mathlib.Core.Path.{_≡_};
-ghost use mathlib.Core.List.{[], _∷_, _++_};
+ghost use mathlib.Core.List.{List, [], _∷_, _++_};
+ghost use Prim.Native.Nat.{ℕ};
 ghost use lib.ListN.{getD, drop};
 ghost use Rattle.reed.specs.Code.{remainder, stepped};
 ghost use Rattle.reed.specs.Registers.{sixteen};
@@ -34,7 +35,8 @@ impl Parity {
 
     // One more byte of the message.
     pub fn push(&mut self, byte: u8)
-        ensures { λ _. ⌜ sixteen (now (self .exit) .register) ≡ stepped (sixteen (now (self .entry) .register)) byte ⌝ }
+        ensures step { λ _. ⌜ sixteen (now (self .exit) .register) ≡ stepped (sixteen (now (self .entry) .register)) byte ⌝ }
+        ensures after { λ _. ⌜ ((message : List ℕ) → sixteen (now (self .entry) .register) ≡ remainder message → sixteen (now (self .exit) .register) ≡ remainder (message ++ byte ∷ [])) ⌝ }
     {
         let first = (self.register >> 120) as u8;
         self.register = (self.register << 8) ^ row(byte ^ first);
