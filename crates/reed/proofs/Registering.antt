@@ -41,9 +41,3 @@ sixteen-first x fits = sym (shr-mod 8 120 fits)
 pub sixteen-moved : (x : ℕ) → sixteen ((x * 256) % 2 ^ 128) ≡ drop 1 (sixteen x) ++ 0 ∷ []
 unfolding bytes-of
 sixteen-moved x = bytes-moved 15 x (omega arith)
-
-pub sixteen-stepped : (x byte row : ℕ) → x < 2 ^ 128 → sixteen row ≡ scaled (bitXor byte (x / 2 ^ 120)) taps
-    → sixteen (bitXor ((x * 256) % 2 ^ 128) row) ≡ stepped (sixteen x) byte
-sixteen-stepped x byte row fits e =
-    bytes-xor 16 ((x * 256) % 2 ^ 128) row
-    ∙ ap₂ sums (sixteen-moved x) (e ∙ ap (λ (y : ℕ). scaled (bitXor byte y) taps) (sixteen-first x fits))

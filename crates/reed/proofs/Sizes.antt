@@ -14,6 +14,7 @@ use Rattle.reed.proofs.Everywhere.{every, at}
 use Rattle.reed.proofs.Linear.{length-sums}
 use Rattle.std.proofs.shelf.Elements.{all-drop, all-push}
 use Rattle.std.proofs.shelf.Lists.{length-map}
+use Rattle.std.proofs.shelf.Sums.{folded-push}
 use Rattle.std.specs.Iters.{folded}
 
 -- ---- bytes
@@ -105,3 +106,7 @@ length-remainder message = length-folded message (replicate 16 0) refl
 pub bytes-remainder : (message : List ℕ) → Bytes (remainder message)
 unfolding remainder
 bytes-remainder message = bytes-folded message (replicate 16 0) (bytes-zeros 16)
+
+pub remainder-push : (message : List ℕ) (byte : ℕ) → remainder (message ++ byte ∷ []) ≡ stepped (remainder message) byte
+unfolding remainder
+remainder-push message byte = folded-push stepped (replicate 16 0) message byte
