@@ -1,13 +1,12 @@
 -- The sixteen bytes of a number of 128 bits under exclusive or and a shift by one byte.
 use mathlib.Core.Path.{_≡_, refl, sym, ap, ap₂, _∙_}
-use mathlib.Core.List.{List, [], _∷_, _++_}
+use mathlib.Core.List.{[], _∷_, _++_}
 use Prim.Native.Nat.{ℕ, zero, suc, _+_, _-_, _*_, _/_, _%_, _^_, _<_, _≤_}
 use native.Mathlib.Omega.{arith}
 use lib.Bits.{bitXor, xor-shr, xor-mod}
 use lib.ListN.{getD, drop}
 use lib.Pow.{field, mod-mod-pow, shl-shr, shr-shr, shr-mod}
-use Rattle.reed.specs.Code.{taps, stepped}
-use Rattle.reed.specs.Field.{sums, scaled}
+use Rattle.reed.specs.Field.{sums}
 use Rattle.reed.specs.Registers.{bytes-of, sixteen}
 
 pub bytes-xor : (n x y : ℕ) → bytes-of n (bitXor x y) ≡ sums (bytes-of n x) (bytes-of n y)
