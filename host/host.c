@@ -4,10 +4,11 @@
 #include <stdlib.h>
 #include <string.h>
 
+#include "expected_parity.h"
 #include "expected_tps.h"
 #include "tavzsumer.h"
 
-enum { ROOM = 80, BLOCK = 67, RECORD = 10, UNTOUCHED = 0xA5 };
+enum { ROOM = 80, BLOCK = 67, RECORD = 10, PACKET = 188, PROTECTED = 204, UNTOUCHED = 0xA5 };
 
 static unsigned calls;
 
@@ -38,13 +39,16 @@ static void refused(const char *what, const uint8_t *record, size_t record_lengt
     call_tps(what, record, record_length, frame, buffer_length, answer, NULL, 0);
 }
 
+static unsigned hex(char digit)
+{
+    return digit <= '9' ? (unsigned)(digit - '0') : (unsigned)(digit - 'a') + 10;
+}
+
 /* 17 hexadecimal digits: a zero bit, and s1 to s67. */
 static void read_block(const char *digits, uint8_t *block)
 {
     for (size_t i = 0; i < BLOCK; i++) {
-        char digit = digits[(i + 1) / 4];
-        unsigned value = digit <= '9' ? (unsigned)(digit - '0') : (unsigned)(digit - 'a') + 10;
-        block[i] = (uint8_t)(value >> (3 - (i + 1) % 4) & 1);
+        block[i] = (uint8_t)(hex(digits[(i + 1) / 4]) >> (3 - (i + 1) % 4) & 1);
     }
 }
 
@@ -119,10 +123,49 @@ static void refusals(void)
         fail("no buffer", 0, TAVZSUMER_BUFFER_SHORT, 0);
 }
 
+/* One call with an output of the given length in front of untouched bytes; where it isn't refused, `expected` is what the 204 bytes are to be. */
+static void call_protect(const char *what, const uint8_t *packet, size_t packet_length, size_t output_length, unsigned answer, const uint8_t *expected)
+{
+    uint8_t output[PROTECTED + 2];
+    memset(output, UNTOUCHED, sizeof output);
+    unsigned got = tavzsumer_protect(packet, packet_length, output, output_length);
+    calls++;
+    if (got != answer)
+        fail(what, packet_length, answer, got);
+    for (size_t i = 0; i < sizeof output; i++) {
+        unsigned wanted = answer == 0 && i < PROTECTED ? expected[i] : UNTOUCHED;
+        if (output[i] != wanted)
+            fail(what, i, wanted, output[i]);
+    }
+}
+
+static void protected_packets(void)
+{
+    uint8_t block[PROTECTED + 1] = {0};
+    call_protect("zeros", block, PACKET, PROTECTED, 0, block);
+    for (size_t k = 0; k < sizeof expected_parity / sizeof expected_parity[0]; k++) {
+        for (size_t i = 0; i < PACKET; i++) {
+            size_t x = 1 + 31 * k + 17 * i;
+            block[i] = (uint8_t)(x * x / 8);
+        }
+        for (size_t i = 0; i < PROTECTED - PACKET; i++)
+            block[PACKET + i] = (uint8_t)(16 * hex(expected_parity[k][2 * i]) + hex(expected_parity[k][2 * i + 1]));
+        call_protect("made message", block, PACKET, PROTECTED, 0, block);
+    }
+    for (size_t length = 0; length <= PROTECTED + 1; length++) {
+        if (length != PACKET)
+            call_protect("packet of another length", block, length, PROTECTED, TAVZSUMER_PACKET_LENGTH, NULL);
+        if (length != PROTECTED)
+            call_protect("output of another length", block, PACKET, length, TAVZSUMER_PACKET_LENGTH, NULL);
+    }
+    call_protect("lengths exchanged", block, PROTECTED, PACKET, TAVZSUMER_PACKET_LENGTH, NULL);
+}
+
 int main(void)
 {
     blocks();
     refusals();
+    protected_packets();
     printf("host: %u calls answered and wrote as expected\n", calls);
     return 0;
 }

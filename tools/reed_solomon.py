@@ -5,8 +5,13 @@ The field is worked by logarithms, the parity by long division of message(x) * x
 
     reed_solomon.py HEX..    prints the 16 parity bytes of each message, in hex
     reed_solomon.py          prints those of the messages that the tests use
+    reed_solomon.py --header    writes host/expected_parity.h
+    reed_solomon.py --check     says whether host/expected_parity.h is what it would write
 """
+import pathlib
 import sys
+
+TARGET = pathlib.Path(__file__).resolve().parent.parent / "host" / "expected_parity.h"
 
 P = 0x11D  # x^8 + x^4 + x^3 + x^2 + 1
 
@@ -66,12 +71,33 @@ def report(name, message):
     print(f"{name}: {' '.join(f'{b:02x}' for b in rest)}")
 
 
-if len(sys.argv) > 1:
-    for text in sys.argv[1:]:
-        report(text, bytes.fromhex(text))
-else:
-    print("g(x):", " ".join(str(c) for c in generator()))
-    report("188 zero bytes", bytes(188))
-    report("187 zero bytes, then 1", bytes(187) + b"\x01")
-    report("byte i is i mod 256, 188 bytes", bytes(i % 256 for i in range(188)))
-    report("47 hex, then 187 bytes ff hex", b"\x47" + b"\xff" * 187)
+def made_messages():
+    """Messages for the C host: byte i of message k is the number 1 + 31 k + 17 i, times itself, divided by 8, modulo 256."""
+    return [[(1 + 31 * k + 17 * i) ** 2 // 8 % 256 for i in range(188)] for k in range(100)]
+
+
+def header():
+    rows = [f'    "{bytes(parity(message)).hex()}",' for message in made_messages()]
+    head = "/* Written by tools/reed_solomon.py: the parity of made message k, whose byte i is (1 + 31 k + 17 i) squared, divided by 8, modulo 256. */"
+    return "\n".join([head, "static const char *const expected_parity[] = {", *rows, "};", ""])
+
+
+def main(arguments):
+    if arguments == ["--header"]:
+        TARGET.write_text(header())
+    elif arguments == ["--check"]:
+        if TARGET.read_text() != header():
+            sys.exit("host/expected_parity.h is not what tools/reed_solomon.py writes")
+    elif arguments:
+        for text in arguments:
+            report(text, bytes.fromhex(text))
+    else:
+        print("g(x):", " ".join(str(c) for c in generator()))
+        report("188 zero bytes", bytes(188))
+        report("187 zero bytes, then 1", bytes(187) + b"\x01")
+        report("byte i is i mod 256, 188 bytes", bytes(i % 256 for i in range(188)))
+        report("47 hex, then 187 bytes ff hex", b"\x47" + b"\xff" * 187)
+
+
+if __name__ == "__main__":
+    main(sys.argv[1:])
