@@ -55,16 +55,20 @@ module _ (n : ℕ) (hs : List ℕ) (s : Permutes n hs) where
   word-lt Even k h = omega (arith, s .size, index-found k h .1)
   word-lt Odd k h = s .within k h
 
-  pub word-address : (q : ℕ) → q < n → index-of (getD hs q 0) hs ≡ q
+  word-address : (q : ℕ) → q < n → index-of (getD hs q 0) hs ≡ q
   word-address q h =
       let k = getD hs q 0 in
       let i : k < n = s .within q h in
       s .apart (index-of k hs) q (word-lt Even k i) h (address-word k i)
 
-  -- by one parity a word is where the other finds it
-  word-back : (p : Parity) (k : ℕ) → k < n → word-at p hs (word-at (opposite p) hs k) ≡ k
-  word-back Even k h = word-address k h
-  word-back Odd k h = address-word k h
+  -- the word that one parity brings to a place comes back by the other
+  pub word-back : (p : Parity) (k : ℕ) → k < n → word-at (opposite p) hs (word-at p hs k) ≡ k
+  word-back Even k h = address-word k h
+  word-back Odd k h = word-address k h
+
+  pub word-forth : (p : Parity) (k : ℕ) → k < n → word-at p hs (word-at (opposite p) hs k) ≡ k
+  word-forth Even k h = word-address k h
+  word-forth Odd k h = address-word k h
 
   module _ {X : Type 0} where
     pub length-permuted : (p : Parity) (d : X) (xs : List X) → length (permuted p hs d xs) ≡ n
@@ -91,7 +95,7 @@ module _ (n : ℕ) (hs : List ℕ) (s : Permutes n hs) where
         let i : k < n = omega (arith, length-permuted (opposite p) d ys) in
         permuted-at (opposite p) d ys (omega arith) k e i
         ∙ permuted-at p d xs l (word-at (opposite p) hs k) e (word-lt (opposite p) k i)
-        ∙ ap (λ j. getD xs j e) (word-back p k i)
+        ∙ ap (λ j. getD xs j e) (word-forth p k i)
         ∙ sym (getD-take n xs k e i))
 
     -- what stands at a place of a list that was permuted
