@@ -9,7 +9,6 @@ ghost use Rattle.settings.specs.Mode.{mode-read};
 ghost use Rattle.std.specs.declared.result.Result.the-variants.{Ok};
 ghost use Rattle.permute.specs.Parity.{parity-read};
 use address::Addresses;
-use mark::Mark;
 use permute::Parity;
 use permute::permute;
 use refusal::Refusal;
@@ -17,6 +16,10 @@ use settings::Mode;
 
 pub mod laws;
 pub mod mark;
+#[cfg(test)]
+mod tests;
+
+pub use mark::Mark;
 
 // The marks of words that stay where they are, for the longest symbol.
 fn in_place() -> [Mark; 6048]
