@@ -117,8 +117,11 @@ module _ (m b : Mode) (mode : b ≡ m) (p : Parity) (ws old moved : List Mark) (
   short-is =
       ap₂ _||_ (le-ltb (length ws) (length (addresses-of b)) (omega (arith, size, ap length whole, length-unmoved 6048, words-fit m))) (ap (ltb (length old)) size)
 
-  pub refusal-is : refusal-of (addresses-of b) ws old ≡ checked (Ok m) (Ok p) (length old)
+  refusal-is : refusal-of (addresses-of b) ws old ≡ checked (Ok m) (Ok p) (length old)
   refusal-is = ap (λ t. cond t (Some 16) None) short-is
+
+  pub answered : (o : Option ℕ) → o ≡ refusal-of (addresses-of b) ws old → o ≡ checked (Ok m) (Ok p) (length old)
+  answered o e = e ∙ refusal-is
 
   pub refused : (x : ℕ) → Some x ≡ refusal-of (addresses-of b) ws old → moved ≡ buffer-after (Ok m) (Ok p) old
   refused x e =

@@ -8,7 +8,7 @@ use Rattle.settings.specs.Mode.{symbol-cells}
 use Rattle.address.specs.Address.{addresses-of}
 use Rattle.address.proofs.Address.{addresses-permute, words-fit}
 use Rattle.chart.specs.Chart.{mark}
-use Rattle.chart.proofs.Charting.{refusal-is, refused, accepted, room}
+use Rattle.chart.proofs.Charting.{answered, refused, accepted, room}
 use Rattle.chart.proofs.write.Needs as need
 
 pub returns-in-Break-permute : need.returns-in-Break-permute
@@ -17,8 +17,8 @@ returns-in-Break-permute c =
     let said = c .in-Break-permute .ensures tt .answer in
     let after = c .permute .ensures .buffer (mark 0 0) in
     record {
-      answer = ap refused-by (err .1) ∙ ap (λ e. Some (number-of e)) (err .2) ∙ said
-          ∙ refusal-is (c .args .mode) _ (c .new-addresses .ensures) (c .args .parity) _ (c .args .marks .now) _ (c .in-place .ensures) after;
+      answer = ap refused-by (err .1) ∙ ap (λ e. Some (number-of e)) (err .2)
+          ∙ answered (c .args .mode) _ (c .new-addresses .ensures) (c .args .parity) _ (c .args .marks .now) _ (c .in-place .ensures) after _ said;
       buffer = refused (c .args .mode) _ (c .new-addresses .ensures) (c .args .parity) _ (c .args .marks .now) _ (c .in-place .ensures) after _ said;
     }
 
@@ -37,7 +37,7 @@ returns c =
     let said = c .in-Continue-permute .ensures tt .answer in
     let after = c .permute .ensures .buffer (mark 0 0) in
     record {
-      answer = said ∙ refusal-is m _ (c .new-addresses .ensures) (c .args .parity) _ (c .args .marks .now) _ (c .in-place .ensures) after;
+      answer = answered m _ (c .new-addresses .ensures) (c .args .parity) _ (c .args .marks .now) _ (c .in-place .ensures) after _ said;
       buffer = accepted m _ (c .new-addresses .ensures) (c .args .parity) _ (c .args .marks .now) _ (c .in-place .ensures) after said
           (c .land .last .marks) (c .land .kept .marks) (λ k h. c .land .ensures .front k (omega arith)) (λ k h. c .land .ensures .rest k (omega arith));
     }
