@@ -1,11 +1,23 @@
 // A pile keeps the stage rule.
-ghost use Rattle.stage.specs.Piled.{piled, piled-sending, piled-receiving};
+ghost use mathlib.Core.Path.{_≡_};
+ghost use Rattle.std.specs.declared.option.Option.the-variants.{Some};
+ghost use Rattle.stage.specs.Piled.{lifted, piled, piled-sending, piled-receiving};
 use super::Pile;
 use super::settle::settle_down;
 use super::settle::settle_up;
 use refusal::Refusal;
 use stage::Fault;
 use stage::Stage;
+
+// A lower part's fault, seen from above `size` stages.
+fn beyond(fault: Fault, size: u32) -> Fault
+    ensures { λ r. ⌜ Some r ≡ lifted size (Some fault) ⌝ }
+{
+    Fault {
+        stage: fault.stage.saturating_add(size),
+        cause: fault.cause,
+    }
+}
 
 pub impl<U: Stage, L: Stage> Stage for Pile<U, L> as PileStage {
     ghost model = { λ p. piled (U·Stage .model (p .upper)) (L·Stage .model (p .lower)) };
@@ -95,10 +107,7 @@ pub impl<U: Stage, L: Stage> Stage for Pile<U, L> as PileStage {
         }
         match self.lower.receive_take() {
             Ok(none) => Ok(none),
-            Err(fault) => Err(Fault {
-                stage: fault.stage.saturating_add(self.upper.size()),
-                cause: fault.cause,
-            }),
+            Err(fault) => Err(beyond(fault, self.upper.size())),
         }
     }
 }

@@ -45,11 +45,8 @@ pub(crate) fn settle_up<U: Stage, L: Stage>(upper: &mut U, lower: &mut L, misfit
         let Some(unit) = next else {
             return false;
         };
-        if u16::from(unit) < upper.given() {
-            let _ = upper.receive_offer(unit);
-        } else {
-            *misfit = true;
-        }
+        // Nothing waits above, so only a unit that is too large is refused.
+        *misfit = upper.receive_offer(unit).is_err();
     }
     true
 }

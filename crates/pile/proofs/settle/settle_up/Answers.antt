@@ -1,17 +1,17 @@
-use Prim.Native.Nat.{_<_, _≤_}
+use lib.Dec.{ltb}
 use mathlib.Core.Bool.{false}
 use mathlib.Core.Path.{_≡_, sym, ap, ap₂, _∙_}
-use native.Mathlib.Omega.{arith}
+use Rattle.std.specs.Results.{isErr}
 use Rattle.std.specs.declared.option.Option.the-variants.{Some}
 use Rattle.std.specs.declared.result.Result.the-variants.{Ok}
-use Rattle.stage.specs.Model.{Receiving, silence, some-heard, first-heard}
+use Rattle.stage.specs.Model.{Receiving, silence, some-heard, answer, first-heard}
 use Rattle.stage.specs.Piled.{joined-waits, joined-receiving}
-use Rattle.stage.proofs.PilingUp.{moved-up, stuck-up, waits-nothing}
+use Rattle.stage.proofs.PilingUp.{moved-up, waits-nothing}
 use Rattle.stage.proofs.Waits.{nothing-heard, none-heard, none-collected}
 use Rattle.pile.proofs.settle.settle_up.Needs as need
 
-pub loop-misfit-again-then-from-given : need.loop-misfit-again-then-from-given
-loop-misfit-again-then-from-given g c =
+pub loop-misfit-again : need.loop-misfit-again
+loop-misfit-again g c =
     let u = g .U·Stage in
     let l = g .L·Stage in
     let asked = c .receive-waits .ensures in
@@ -23,42 +23,17 @@ loop-misfit-again-then-from-given g c =
     let l₀ : Receiving = l .receiving (c .loop-misfit .lower) in
     let u₂ : Receiving = u .receiving (c .receive-offer .last .self) in
     let l₁ : Receiving = l .receiving (c .receive-take .last .self) in
+    let n = u .model (c .receive-waits .last .self) .given in
     let idle : some-heard (u₁ .waits) ≡ false = ap (λ s. some-heard (s .waits)) (asked .side) ∙ sym (asked .answers) ∙ c .if-not-receive-waits .taken in
     let got : first-heard (l₀ .waits) ≡ Ok (Some (c .in-Some .unit)) = sym (took .answers) ∙ c .in-Ok .is ∙ ap Ok (c .in-Some .is) in
-    let top : u .model (c .receive-waits .last .self) .given ≡ m .given = ap (λ m. m .given) (asked .fixed ∙ inv .0) in
-    let below : c .in-Some .unit < m .given = omega (arith, c .if-from-given .taken, c .from .ensures, c .given .ensures, top) in
-    let good : c .loop-misfit .misfit ≡ false = c .loop-misfit-test .taken in (
+    let top : n ≡ m .given = ap (λ m. m .given) (asked .fixed ∙ inv .0) in
+    let refused : c .is-err .result ≡ isErr (answer (ltb (c .in-Some .unit) n) (some-heard (u₁ .waits))) = c .is-err .ensures .value ∙ ap isErr (gave .answers) in (
       gave .fixed ∙ asked .fixed ∙ inv .0,
       took .fixed ∙ inv .1,
       gave .other ∙ asked .other ∙ inv .2,
       took .other ∙ inv .3,
-      ap (λ b. joined-receiving b m u₂ l₁) good
-          ∙ moved-up m u₁ l₀ l₁ (c .in-Some .unit) (g .U·Stage·met .hears (c .receive-waits .last .self)) idle got (took .side)
-          u₂ (u .model (c .receive-waits .last .self) .given) below top (gave .side)
-          ∙ ap₂ (λ b s. joined-receiving b m s l₀) (sym good) (asked .side)
-          ∙ inv .4,
-    )
-
-pub loop-misfit-again : need.loop-misfit-again
-loop-misfit-again g c =
-    let u = g .U·Stage in
-    let l = g .L·Stage in
-    let asked = c .receive-waits .ensures in
-    let took = c .receive-take .ensures in
-    let inv = c .loop-misfit .inv in
-    let m = u .model (c .args .upper .now) in
-    let u₁ : Receiving = u .receiving (c .receive-waits .last .self) in
-    let l₀ : Receiving = l .receiving (c .loop-misfit .lower) in
-    let l₁ : Receiving = l .receiving (c .receive-take .last .self) in
-    let idle : some-heard (u₁ .waits) ≡ false = ap (λ s. some-heard (s .waits)) (asked .side) ∙ sym (asked .answers) ∙ c .if-not-receive-waits .taken in
-    let got : first-heard (l₀ .waits) ≡ Ok (Some (c .in-Some .unit)) = sym (took .answers) ∙ c .in-Ok .is ∙ ap Ok (c .in-Some .is) in
-    let top : u .model (c .receive-waits .last .self) .given ≡ m .given = ap (λ m. m .given) (asked .fixed ∙ inv .0) in
-    let above : m .given ≤ c .in-Some .unit = omega (arith, c .if-from-given .left, c .from .ensures, c .given .ensures, top) in (
-      asked .fixed ∙ inv .0,
-      took .fixed ∙ inv .1,
-      asked .other ∙ inv .2,
-      took .other ∙ inv .3,
-      stuck-up m u₁ l₀ l₁ (c .in-Some .unit) (g .U·Stage·met .hears (c .receive-waits .last .self)) idle got (took .side) above
+      moved-up m u₁ l₀ l₁ (c .in-Some .unit) (g .U·Stage·met .hears (c .receive-waits .last .self)) idle got (took .side)
+          u₂ (c .is-err .result) n top refused (gave .side)
           ∙ ap₂ (λ b s. joined-receiving b m s l₀) (sym (c .loop-misfit-test .taken)) (asked .side)
           ∙ inv .4,
     )

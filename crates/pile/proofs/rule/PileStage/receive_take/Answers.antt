@@ -1,4 +1,3 @@
-use Prim.Native.Nat.{_+_, min}
 use mathlib.Core.Bool.{true, false}
 use mathlib.Core.List.{[]}
 use mathlib.Core.Path.{_≡_, sym, ap, ap₂, subst₂, _∙_}
@@ -6,8 +5,7 @@ use Rattle.std.specs.declared.option.Option.the-variants.{Some, None}
 use Rattle.std.specs.declared.result.Result.the-variants.{Ok, Err}
 use Rattle.stage.specs.declared.Fault.{Fault}
 use Rattle.stage.specs.Model.{Receiving, first-heard, fault-or, collected, Below-some}
-use Rattle.stage.specs.Rule.{most}
-use Rattle.stage.specs.Piled.{fits, if-fits, piled, joined-receiving, piled-receiving}
+use Rattle.stage.specs.Piled.{fits, if-fits, piled, lifted, joined-receiving, piled-receiving}
 use Rattle.stage.proofs.PilingDown.{same-sending}
 use Rattle.stage.proofs.PilingUp.{idle-fault, lifted-err, take-unit, take-end, same-up, receiving-fits}
 use Rattle.stage.proofs.Waits.{none-heard}
@@ -67,13 +65,14 @@ returns-in-Err g c =
     let done = take-end m u₁ l₁ (g .U·Stage·met .hears (c .settle-up .last .upper)) none empty in
     let fault : Fault = c .in-Err .fault in
     let low : fault-or (l₁ .waits .fault) ≡ Err fault = sym (idle-fault (l₁ .waits) empty) ∙ sym (took .answers) ∙ c .in-Err .is in
-    let stage : c .saturating-add .result ≡ min (fault .stage + m .size) most =
-    c .saturating-add .ensures ∙ ap (λ n. min (fault .stage + n) most) (c .size-in-Err .ensures ∙ ap (λ m. m .size) upper-same) in
+    let seen : lifted (m .size) (l₁ .waits .fault) ≡ Some (c .beyond .result) =
+    lifted-err (m .size) (l₁ .waits .fault) fault low
+    ∙ ap (λ n. lifted n (Some fault)) (sym (c .size-in-Err .ensures ∙ ap (λ m. m .size) upper-same))
+    ∙ sym (c .beyond .ensures) in
     record {
       fixed = ap₂ piled upper-same lower-same;
       other = same-sending upper-same lower-same (above .other ∙ up .upper-other) (took .other ∙ up .lower-other);
-      answers = ap (λ n. Err (record { stage = n; cause = fault .cause })) stage
-          ∙ sym (lifted-err (m .size) (l₁ .waits .fault) fault low) ∙ sym (done .0) ∙ ap (λ s. first-heard (s .waits)) whole;
+      answers = sym (done .0 ∙ ap fault-or seen) ∙ ap (λ s. first-heard (s .waits)) whole;
       below = tt;
       side = same-up (c .settle-up .last .misfit) u₂ l₂ upper-same lower-same fit
           ∙ ap (λ b. joined-receiving b m u₂ l₂) good ∙ ap₂ (joined-receiving false m) (above .side) (took .side) ∙ done .1 ∙ ap collected whole;
