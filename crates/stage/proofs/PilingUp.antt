@@ -17,7 +17,7 @@ use Rattle.stage.proofs.HandingUp.{hand-up-clean, hand-up-then, hand-up-hears}
 use Rattle.stage.proofs.Hearing.{hears, rest-hushed, hushed-hears, hears-append, after-after-heard, after-hears, after-nothing-heard}
 use Rattle.stage.proofs.Offers.{offer-heard}
 use Rattle.stage.proofs.PilingDown.{if-fits-both}
-use Rattle.stage.proofs.Waits.{nothing-heard, unit-heard, none-heard, fault-heard, none-collected}
+use Rattle.stage.proofs.Waits.{nothing-heard, unit-heard, none-heard, none-collected}
 
 -- the sides, taken apart
 apart : (s : Receiving) (h : Heard) → s .waits ≡ h → s ≡ record { waits = h; future = s .future }
@@ -163,18 +163,6 @@ joined-idle m u l s eu el =
     λ i. record { waits = w i; future = λ ys. q ys i }
 
 -- Does something wait in a pile?
-some-left : (us : List ℕ) (o : Option Fault) (k : Heard) → some-heard (hears us o) ≡ true → some-heard (and-then (hears us o) k) ≡ true
-some-left [] None k e = let z : _≡_ {A = ℕ} 0 1 = cc in absurd (omega arith)
-some-left [] (Some f) k e = refl
-some-left (v ∷ us) None k e = refl
-some-left (v ∷ us) (Some f) k e = refl
-
-some-right : (us : List ℕ) (o : Option Fault) (k : Heard) → some-heard k ≡ true → some-heard (and-then (hears us o) k) ≡ true
-some-right [] None k e = e
-some-right [] (Some f) k e = refl
-some-right (v ∷ us) None k e = refl
-some-right (v ∷ us) (Some f) k e = refl
-
 quiet-both : (us : List ℕ) (o : Option Fault) (k : Heard) → some-heard (and-then (hears us o) k) ≡ false
     → (hears us o ≡ silence) × (some-heard k ≡ false)
 quiet-both [] None k e = (refl, e)
@@ -187,35 +175,21 @@ not-lifted size None e = refl
 not-lifted size (Some f) e = let z : _≡_ {A = ℕ} 0 1 = cc in absurd (omega arith)
 
 module _ (m : Model) (u l : Receiving) where
-  pub waits-above : (misfit : Bool) → some-heard (u .waits) ≡ true → some-heard (joined-waits misfit m u l) ≡ true
-  waits-above misfit e = some-left (u .waits .units) (u .waits .fault) _ e
-
-  pub waits-misfit : (misfit : Bool) → misfit ≡ true → some-heard (joined-waits misfit m u l) ≡ true
-  waits-misfit true e = some-right (u .waits .units) (u .waits .fault) (hears [] (Some (misfit-at (m .size)))) refl
-  waits-misfit false e = let z : _≡_ {A = ℕ} 0 1 = cc in absurd (omega arith)
-
-  pub waits-fault : (f : Fault) → Hears (u .future) → u .waits ≡ silence → first-heard (l .waits) ≡ Err f → some-heard (joined-waits false m u l) ≡ true
-  waits-fault f s e p =
-      let q = fault-heard (l .waits) f p in
-      ap some-heard (end-waits m u l s e (ap (λ h. h .units) q)) ∙ ap (λ h. some-fault (lifted (m .size) (h .fault))) q
-
   pub waits-nothing : Hears (u .future) → u .waits ≡ silence → l .waits ≡ silence → some-heard (joined-waits false m u l) ≡ false
   waits-nothing s eu el = ap (λ s. some-heard (s .waits)) (joined-idle m u l s eu el)
 
   -- where nothing waits in a settled pile, nothing waits in its parts
   pub quiet-parts : (misfit : Bool) → Hears (u .future) → (u .waits ≡ silence → misfit ≡ false → l .waits .units ≡ [])
       → some-heard (joined-waits misfit m u l) ≡ false → (misfit ≡ false) × (u .waits ≡ silence) × (l .waits ≡ silence)
-  quiet-parts true s settled e = let z : _≡_ {A = ℕ} 0 1 = cc (e, waits-misfit true refl) in absurd (omega arith)
+  quiet-parts true s settled e =
+      let p = quiet-both (u .waits .units) (u .waits .fault) (hears [] (Some (misfit-at (m .size)))) e .1 in
+      let z : _≡_ {A = ℕ} 0 1 = cc p in
+      absurd (omega arith)
   quiet-parts false s settled e =
       let above : u .waits ≡ silence = quiet-both (u .waits .units) (u .waits .fault) _ e .0 in
       let empty : l .waits .units ≡ [] = settled above refl in
       let none = not-lifted (m .size) (l .waits .fault) (sym (ap some-heard (end-waits m u l s above empty)) ∙ e) in
       (refl, above, λ i. hears (empty i) (none i))
-
--- a pile of new parts is new
-pub new-piled-receiving : (m k : Model) → Hears (m .hears) → piled-receiving false m k (new-receiving m) (new-receiving k) ≡ new-receiving (piled m k)
-new-piled-receiving m k s =
-    if-fits-both (λ s. s ≡ new-receiving (piled m k)) (fits m k) (joined-idle m (new-receiving m) (new-receiving k) s refl refl) refl
 
 -- An offer to a pile in which nothing waits is an offer to its lower part.
 joined-hearing : (m : Model) (u l : Receiving) (v : ℕ) → Hears (u .future) → Hears (l .future) → u .waits ≡ silence → l .waits ≡ silence
