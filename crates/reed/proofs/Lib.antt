@@ -1,0 +1,8 @@
+pub mod Codewords
+pub mod Everywhere
+pub mod Linear
+pub mod Registering
+pub mod Roots
+pub mod Rowing
+pub mod Sizes
+pub mod Unique

@@ -1,0 +1,4 @@
+pub mod Code
+pub mod Field
+pub mod Packets
+pub mod Registers
