@@ -1,4 +1,7 @@
 pub mod Waiting
+pub mod Idle
+pub mod Protecting
+pub mod CoderSides
 pub mod Ringing
 pub mod Tables
 pub mod Delaying

@@ -1,4 +1,6 @@
 pub mod Waiting
+pub mod Coder
+pub mod Protection
 pub mod Branches
 pub mod Rings
 pub mod Banks
