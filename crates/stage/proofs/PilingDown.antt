@@ -36,10 +36,6 @@ moved-by u u′ l l′ v n s e h k p q =
     ap₂ joined-sending p (q ∙ offer-sent l v n k w) ∙ moved u l v s w (first-waits (u .waits) v h)
 
 -- ws, and then vs, which is nothing where ws is
-some-append : (ws vs : List ℕ) → (ws ≡ [] → vs ≡ []) → some (ws ++ vs) ≡ some ws
-some-append [] vs h = ap some (h refl)
-some-append (w ∷ ws) vs h = refl
-
 first-append : (ws vs : List ℕ) → (ws ≡ [] → vs ≡ []) → first (ws ++ vs) ≡ first ws
 first-append [] vs h = ap first (h refl)
 first-append (w ∷ ws) vs h = refl
@@ -52,9 +48,6 @@ others-append (w ∷ ws) vs h = refl
 module _ (u l : Sending) (s : Sends (l .future)) (settled : l .waits ≡ [] → u .waits ≡ []) where
   quiet : l .waits ≡ [] → l .future (u .waits) ≡ []
   quiet e = ap (l .future) (settled e) ∙ s .none
-
-  pub settled-some : some (joined-sending u l .waits) ≡ some (l .waits)
-  settled-some = some-append (l .waits) (l .future (u .waits)) quiet
 
   pub settled-first : first (joined-sending u l .waits) ≡ first (l .waits)
   settled-first = first-append (l .waits) (l .future (u .waits)) quiet
@@ -70,11 +63,6 @@ joined-idle u l s eu el =
     let q : (xs : List ℕ) → after (l .future) (u .waits) (u .future xs) ≡ l .future (u .future xs) =
     λ xs. ap (λ w. after (l .future) w (u .future xs)) eu ∙ after-nothing s (u .future xs) in
     λ i. record { waits = w i; future = λ xs. q xs i }
-
--- a pile of new parts is new
-pub new-piled-sending : (m k : Model) → Sends (k .sends) → piled-sending m k (new-sending m) (new-sending k) ≡ new-sending (piled m k)
-new-piled-sending m k s =
-    if-fits-both (λ s. s ≡ new-sending (piled m k)) (fits m k) (joined-idle (new-sending m) (new-sending k) s refl refl) refl
 
 -- an offer to a pile in which nothing waits is an offer to its upper part
 joined-accepting : (u l : Sending) (v : ℕ) → Sends (u .future) → Sends (l .future) → u .waits ≡ [] → l .waits ≡ []

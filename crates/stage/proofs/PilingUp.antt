@@ -1,17 +1,17 @@
 -- A unit moves from the lower part of a pile to the upper one: nothing of the pile's receiving side alters.
-use Prim.Native.Nat.{ℕ, _+_, _<_, _≤_, min}
+use Prim.Native.Nat.{ℕ, _<_}
 use lib.Dec.{ltb}
 use mathlib.Core.Bool.{Bool, true, false}
 use mathlib.Core.List.{List, [], _∷_}
 use mathlib.Core.Path.{_≡_, refl, sym, ap, ap₂, subst, _∙_, fun-ext}
 use native.Mathlib.Omega.{arith}
-use Rattle.std.proofs.shelf.Tests.{lt-ltb, le-ltb}
+use Rattle.std.specs.Results.{isErr}
 use Rattle.std.specs.declared.option.Option.{Option}
 use Rattle.std.specs.declared.option.Option.the-variants.{Some, None}
 use Rattle.std.specs.declared.result.Result.the-variants.{Ok, Err}
 use Rattle.stage.specs.declared.Fault.{Fault}
-use Rattle.stage.specs.Model.{Heard, Model, Receiving, new-receiving, answer, and-then, hushed, rest-of, silence, after-heard, others, some-heard, first-heard, first-or, fault-or, heard, collected}
-use Rattle.stage.specs.Rule.{Hears, most}
+use Rattle.stage.specs.Model.{Heard, Model, Receiving, new-receiving, answer, and-then, hushed, rest-of, silence, after-heard, others, some-heard, some-fault, first-heard, first-or, fault-or, heard, collected}
+use Rattle.stage.specs.Rule.{Hears}
 use Rattle.stage.specs.Piled.{fits, if-fits, piled, lifted, fitting, keep-if, ending, or-misfit, misfit-at, hand-up, arriving, joined-waits, joined-receiving, piled-receiving}
 use Rattle.stage.proofs.HandingUp.{hand-up-clean, hand-up-then, hand-up-hears}
 use Rattle.stage.proofs.Hearing.{hears, rest-hushed, hushed-hears, hears-append, after-after-heard, after-hears, after-nothing-heard}
@@ -51,7 +51,7 @@ module _ (m : Model) {f : List ℕ → Heard} (s : Hears f) (v : ℕ) (vs : List
       λ ys. ap (λ h. hushed (h .fault) (hand-up (m .size) (m .given) (after-heard f (fitting (m .given) (v ∷ vs))) (l ys))) w in
       λ i. record { waits = w i; future = λ ys. q ys i }
 
--- the two turns of the loop, from what the calls answer
+-- the turn of the loop, from what the calls answer
 module _ (m : Model) (u l l′ : Receiving) (v : ℕ) (s : Hears (u .future)) (idle : some-heard (u .waits) ≡ false)
     (first : first-heard (l .waits) ≡ Ok (Some v)) (took : l′ ≡ collected l) where
   upper-is : u ≡ record { waits = silence; future = u .future }
@@ -65,18 +65,26 @@ module _ (m : Model) (u l l′ : Receiving) (v : ℕ) (s : Hears (u .future)) (i
       ≡ joined-receiving false m u l
   whole = ap₂ (joined-receiving false m) (sym upper-is) lower-is
 
-  pub moved-up : (u′ : Receiving) (n : ℕ) → v < m .given → n ≡ m .given → u′ ≡ heard (ltb v n) (some-heard (u .waits)) u v
-      → joined-receiving false m u′ l′ ≡ joined-receiving false m u l
-  moved-up u′ n h e gave =
-      ap₂ (joined-receiving false m) (gave ∙ ap (λ n. heard (ltb v n) (some-heard (u .waits)) u v) e ∙ offer-heard u v (m .given) h (nothing-heard (u .waits) idle)) took
-      ∙ fits-up m s v (others (l .waits .units)) (l .waits .fault) (l .future) (lt-ltb v (m .given) h)
-      ∙ whole
-
-  pub stuck-up : m .given ≤ v → joined-receiving true m u l′ ≡ joined-receiving false m u l
-  stuck-up h =
-      ap₂ (joined-receiving true m) upper-is took
-      ∙ misfits-up m s v (others (l .waits .units)) (l .waits .fault) (l .future) (le-ltb v (m .given) h)
-      ∙ whole
+  pub moved-up : (u′ : Receiving) (misfit : Bool) (n : ℕ) → n ≡ m .given
+      → misfit ≡ isErr (answer (ltb v n) (some-heard (u .waits))) → u′ ≡ heard (ltb v n) (some-heard (u .waits)) u v
+      → joined-receiving misfit m u′ l′ ≡ joined-receiving false m u l
+  moved-up u′ misfit n e refused gave =
+      by (ltb v (m .given)) refl
+      (refused ∙ ap₂ (λ n b. isErr (answer (ltb v n) b)) e idle)
+      (gave ∙ ap₂ (λ n b. heard (ltb v n) b u v) e idle)
+    where
+      by : (b : Bool) → ltb v (m .given) ≡ b → misfit ≡ isErr (answer (ltb v (m .given)) false) → u′ ≡ heard (ltb v (m .given)) false u v
+          → joined-receiving misfit m u′ l′ ≡ joined-receiving false m u l
+      by true p q r =
+          ap₂ (λ b s. joined-receiving b m s l′) (q ∙ ap (λ b. isErr (answer b false)) p) (r ∙ ap (λ b. heard b false u v) p)
+          ∙ ap (joined-receiving false m (heard true false u v)) took
+          ∙ fits-up m s v (others (l .waits .units)) (l .waits .fault) (l .future) p
+          ∙ whole
+      by false p q r =
+          ap₂ (λ b s. joined-receiving b m s l′) (q ∙ ap (λ b. isErr (answer b false)) p) (r ∙ ap (λ b. heard b false u v) p)
+          ∙ ap₂ (joined-receiving true m) upper-is took
+          ∙ misfits-up m s v (others (l .waits .units)) (l .waits .fault) (l .future) p
+          ∙ whole
 
 -- what a pile will give is a future
 pub piled-hears : (misfit : Bool) (m k : Model) (u l : Receiving) → Hears (m .hears) → Hears (k .hears) → Hears (u .future) → Hears (l .future)
@@ -154,10 +162,34 @@ joined-idle m u l s eu el =
     ∙ ap (λ f. hand-up (m .size) (m .given) f (l .future ys)) (fun-ext (after-nothing-heard s)) in
     λ i. record { waits = w i; future = λ ys. q ys i }
 
--- a pile of new parts is new
-pub new-piled-receiving : (m k : Model) → Hears (m .hears) → piled-receiving false m k (new-receiving m) (new-receiving k) ≡ new-receiving (piled m k)
-new-piled-receiving m k s =
-    if-fits-both (λ s. s ≡ new-receiving (piled m k)) (fits m k) (joined-idle m (new-receiving m) (new-receiving k) s refl refl) refl
+-- Does something wait in a pile?
+quiet-both : (us : List ℕ) (o : Option Fault) (k : Heard) → some-heard (and-then (hears us o) k) ≡ false
+    → (hears us o ≡ silence) × (some-heard k ≡ false)
+quiet-both [] None k e = (refl, e)
+quiet-both [] (Some f) k e = let z : _≡_ {A = ℕ} 0 1 = cc in absurd (omega arith)
+quiet-both (v ∷ us) None k e = let z : _≡_ {A = ℕ} 0 1 = cc in absurd (omega arith)
+quiet-both (v ∷ us) (Some f) k e = let z : _≡_ {A = ℕ} 0 1 = cc in absurd (omega arith)
+
+not-lifted : (size : ℕ) (o : Option Fault) → some-fault (lifted size o) ≡ false → o ≡ None
+not-lifted size None e = refl
+not-lifted size (Some f) e = let z : _≡_ {A = ℕ} 0 1 = cc in absurd (omega arith)
+
+module _ (m : Model) (u l : Receiving) where
+  pub waits-nothing : Hears (u .future) → u .waits ≡ silence → l .waits ≡ silence → some-heard (joined-waits false m u l) ≡ false
+  waits-nothing s eu el = ap (λ s. some-heard (s .waits)) (joined-idle m u l s eu el)
+
+  -- where nothing waits in a settled pile, nothing waits in its parts
+  pub quiet-parts : (misfit : Bool) → Hears (u .future) → (u .waits ≡ silence → misfit ≡ false → l .waits .units ≡ [])
+      → some-heard (joined-waits misfit m u l) ≡ false → (misfit ≡ false) × (u .waits ≡ silence) × (l .waits ≡ silence)
+  quiet-parts true s settled e =
+      let p = quiet-both (u .waits .units) (u .waits .fault) (hears [] (Some (misfit-at (m .size)))) e .1 in
+      let z : _≡_ {A = ℕ} 0 1 = cc p in
+      absurd (omega arith)
+  quiet-parts false s settled e =
+      let above : u .waits ≡ silence = quiet-both (u .waits .units) (u .waits .fault) _ e .0 in
+      let empty : l .waits .units ≡ [] = settled above refl in
+      let none = not-lifted (m .size) (l .waits .fault) (sym (ap some-heard (end-waits m u l s above empty)) ∙ e) in
+      (refl, above, λ i. hears (empty i) (none i))
 
 -- An offer to a pile in which nothing waits is an offer to its lower part.
 joined-hearing : (m : Model) (u l : Receiving) (v : ℕ) → Hears (u .future) → Hears (l .future) → u .waits ≡ silence → l .waits ≡ silence
@@ -203,17 +235,6 @@ module _ (m k : Model) (misfit : Bool) (u₀ l₀ u₁ l₁ : Receiving) (v : �
 pub idle-fault : (h : Heard) → h .units ≡ [] → first-heard h ≡ fault-or (h .fault)
 idle-fault h p = ap (λ us. first-or us (fault-or (h .fault))) p
 
-pub ok-none : (o : Option Fault) (n : Option ℕ) → fault-or o ≡ Ok n → n ≡ None
-ok-none None n e = cc
-ok-none (Some f) n e = let z : _≡_ {A = ℕ} 0 1 = cc in absurd (omega arith)
-
-pub lifted-ok : (size : ℕ) (o : Option Fault) (n : Option ℕ) → fault-or o ≡ Ok n → fault-or (lifted size o) ≡ Ok n
-lifted-ok size None n e = e
-lifted-ok size (Some f) n e = let z : _≡_ {A = ℕ} 0 1 = cc in absurd (omega arith)
-
-pub lifted-err : (size : ℕ) (o : Option Fault) (f : Fault) → fault-or o ≡ Err f
-    → fault-or (lifted size o) ≡ Err (record { stage = min (f .stage + size) most; cause = f .cause })
+pub lifted-err : (size : ℕ) (o : Option Fault) (f : Fault) → fault-or o ≡ Err f → lifted size o ≡ lifted size (Some f)
 lifted-err size None f e = let z : _≡_ {A = ℕ} 0 1 = cc in absurd (omega arith)
-lifted-err size (Some d) f e =
-    let p : d ≡ f = cc in
-    ap (λ (x : Fault). Err (record { stage = min (x .stage + size) most; cause = x .cause })) p
+lifted-err size (Some d) f e = let p : d ≡ f = cc in ap (λ (x : Fault). lifted size (Some x)) p
