@@ -1,13 +1,12 @@
 -- The sixteen bytes of a number of 128 bits under exclusive or and a shift by one byte.
 use mathlib.Core.Path.{_≡_, refl, sym, ap, ap₂, _∙_}
-use mathlib.Core.List.{List, [], _∷_, _++_}
+use mathlib.Core.List.{[], _∷_, _++_}
 use Prim.Native.Nat.{ℕ, zero, suc, _+_, _-_, _*_, _/_, _%_, _^_, _<_, _≤_}
 use native.Mathlib.Omega.{arith}
 use lib.Bits.{bitXor, xor-shr, xor-mod}
 use lib.ListN.{getD, drop}
 use lib.Pow.{field, mod-mod-pow, shl-shr, shr-shr, shr-mod}
-use Rattle.reed.specs.Code.{taps, stepped}
-use Rattle.reed.specs.Field.{sums, scaled}
+use Rattle.reed.specs.Field.{sums}
 use Rattle.reed.specs.Registers.{bytes-of, sixteen}
 
 pub bytes-xor : (n x y : ℕ) → bytes-of n (bitXor x y) ≡ sums (bytes-of n x) (bytes-of n y)
@@ -41,9 +40,3 @@ sixteen-first x fits = sym (shr-mod 8 120 fits)
 pub sixteen-moved : (x : ℕ) → sixteen ((x * 256) % 2 ^ 128) ≡ drop 1 (sixteen x) ++ 0 ∷ []
 unfolding bytes-of
 sixteen-moved x = bytes-moved 15 x (omega arith)
-
-pub sixteen-stepped : (x byte row : ℕ) → x < 2 ^ 128 → sixteen row ≡ scaled (bitXor byte (x / 2 ^ 120)) taps
-    → sixteen (bitXor ((x * 256) % 2 ^ 128) row) ≡ stepped (sixteen x) byte
-sixteen-stepped x byte row fits e =
-    bytes-xor 16 ((x * 256) % 2 ^ 128) row
-    ∙ ap₂ sums (sixteen-moved x) (e ∙ ap (λ (y : ℕ). scaled (bitXor byte y) taps) (sixteen-first x fits))

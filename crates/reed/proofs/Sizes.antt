@@ -1,9 +1,8 @@
 -- Products, values and remainders of bytes are bytes, and a remainder has sixteen.
-use mathlib.Core.Path.{_≡_, refl, sym, ap, _∙_}
+use mathlib.Core.Path.{_≡_, refl, sym, _∙_}
 use mathlib.Core.Bool.{Bool}
-use mathlib.Core.Logic.{inl, inr}
 use mathlib.Core.List.{List, [], _∷_, _++_}
-use Prim.Native.Nat.{ℕ, zero, suc, _+_, _*_, _/_, _%_, _<_}
+use Prim.Native.Nat.{ℕ, zero, suc, _/_, _%_, _<_}
 use native.Mathlib.Omega.{arith}
 use lib.Bits.{bitXor, xor-lt}
 use lib.Dec.{T, ltb, lit<}
@@ -14,6 +13,7 @@ use Rattle.reed.proofs.Everywhere.{every, at}
 use Rattle.reed.proofs.Linear.{length-sums}
 use Rattle.std.proofs.shelf.Elements.{all-drop, all-push}
 use Rattle.std.proofs.shelf.Lists.{length-map}
+use Rattle.std.proofs.shelf.Sums.{folded-push}
 use Rattle.std.specs.Iters.{folded}
 
 -- ---- bytes
@@ -105,3 +105,7 @@ length-remainder message = length-folded message (replicate 16 0) refl
 pub bytes-remainder : (message : List ℕ) → Bytes (remainder message)
 unfolding remainder
 bytes-remainder message = bytes-folded message (replicate 16 0) (bytes-zeros 16)
+
+pub remainder-push : (message : List ℕ) (byte : ℕ) → remainder (message ++ byte ∷ []) ≡ stepped (remainder message) byte
+unfolding remainder
+remainder-push message byte = folded-push stepped (replicate 16 0) message byte

