@@ -1,15 +1,14 @@
--- What a byte is combined with, place by place: the register runs on from place to place, and the masks are bytes.
-use mathlib.Core.Path.{_≡_, sym, ap, subst, _∙_}
+-- The register stays a number of fifteen bits from place to place, and the masks are bytes.
+use mathlib.Core.Path.{_≡_, refl, ap, subst}
 use mathlib.Core.Bool.{cond}
 use Prim.Native.Nat.{ℕ, zero, suc, _+_, _/_, _%_, _<_}
-use native.Mathlib.Nat.{not-suc-le-zero}
 use native.Mathlib.Numerals.{add-one}
 use native.Mathlib.Omega.{arith}
 use lib.Bits.{bitXor, and-le-r}
 use lib.Dec.{eqb, lit<}
-use Rattle.dispersal.specs.Noise.{run, outputs, shifted, before, mask}
+use Rattle.dispersal.specs.Noise.{loaded, run, outputs, shifted, moved-on, before, masked, mask}
 use Rattle.dispersal.proofs.Octets.{octet}
-use Rattle.std.proofs.shelf.Tests.{cond-both, eq-eqb, ne-eqb}
+use Rattle.std.proofs.shelf.Tests.{cond-both}
 
 run-lt : (n r : ℕ) → r < 32768 → run n r < 32768
 unfolding run
@@ -19,36 +18,26 @@ run-lt (suc n) r h = run-lt n (shifted r) (omega arith)
 pub before-lt : (k : ℕ) → before k < 32768
 unfolding before
 before-lt zero = lit< tt
-before-lt (suc zero) = lit< tt
-before-lt (suc (suc k)) = run-lt 8 (before (suc k)) (before-lt (suc k))
+before-lt (suc k) = cond-both (eqb k 0) (before k) (run 8 (before k)) (λ r. r < 32768) (λ e. before-lt k) (λ e. run-lt 8 (before k) (before-lt k))
 
-pub before-first : (k : ℕ) → k ≡ 0 → before (k + 1) ≡ before k
+pub before-first : (k : ℕ) → k ≡ 0 → before k ≡ loaded
 unfolding before
-before-first k e = ap (λ i. before (i + 1)) e ∙ sym (ap before e)
+before-first k e = ap before e
 
-pub before-next : (k : ℕ) → 0 < k → before (k + 1) ≡ run 8 (before k)
+pub before-next : (k : ℕ) → before (k + 1) ≡ moved-on k (before k)
 unfolding before
-before-next zero h = absurd (not-suc-le-zero h)
-before-next (suc k) h = ap before (add-one (suc k))
+before-next k = ap before (add-one k)
 
-pub mask-first : (k : ℕ) → k ≡ 0 → mask k ≡ 255
+pub mask-is : (k : ℕ) → mask k ≡ masked k (outputs 8 0 (before k))
 unfolding mask
-mask-first k e = ap mask e
-
-pub mask-sync : (k : ℕ) → 0 < k → k % 188 ≡ 0 → mask k ≡ 0
-unfolding mask
-mask-sync zero h e = absurd (not-suc-le-zero h)
-mask-sync (suc k) h e = ap (λ b. cond b 0 (outputs 8 0 (before (suc k)))) (eq-eqb (suc k % 188) 0 e)
-
-pub mask-other : (k : ℕ) → 0 < k → (k % 188 ≡ 0 → ⊥) → mask k ≡ outputs 8 0 (before k)
-unfolding mask
-mask-other zero h e = absurd (not-suc-le-zero h)
-mask-other (suc k) h e = ap (λ b. cond b 0 (outputs 8 0 (before (suc k)))) (ne-eqb (suc k % 188) 0 e)
+mask-is k = refl
 
 outputs-byte : (r : ℕ) → r < 32768 → outputs 8 0 r < 256
 outputs-byte r h = subst (λ m. m < 256) (octet r h) (omega (arith, and-le-r (bitXor (r / 128) (r / 64)) 255))
 
 pub mask-byte : (k : ℕ) → mask k < 256
 unfolding mask
-mask-byte zero = omega arith
-mask-byte (suc k) = cond-both (eqb (suc k % 188) 0) 0 (outputs 8 0 (before (suc k))) (λ m. m < 256) (λ e. omega arith) (λ e. outputs-byte (before (suc k)) (before-lt (suc k)))
+mask-byte k =
+    let out = outputs 8 0 (before k) in
+    cond-both (eqb k 0) 255 (cond (eqb (k % 188) 0) 0 out) (λ m. m < 256) (λ e. omega arith)
+    (λ e. cond-both (eqb (k % 188) 0) 0 out (λ m. m < 256) (λ d. omega arith) (λ d. outputs-byte (before k) (before-lt k)))

@@ -25,15 +25,18 @@ unfoldable pub outputs : ℕ → ℕ → ℕ → ℕ
 outputs zero x r = x
 outputs (suc n) x r = outputs n (2 * x + output r) (shifted r)
 
--- the register before the byte at a place of a group: it starts with byte 1, and runs on over the sync bytes
+-- the register before the byte after a place: eight outputs on, over the sync bytes too, but for byte 0, since it starts with byte 1
+abbrev pub moved-on : ℕ → ℕ → ℕ
+moved-on place r = cond (eqb place 0) r (run 8 r)
+
+-- the register before the byte at a place of a group
 unfoldable pub before : ℕ → ℕ
-unfolding run
 before zero = loaded
-before (suc zero) = loaded
-before (suc (suc k)) = run 8 (before (suc k))
+before (suc k) = moved-on k (before k)
 
 -- byte 0 is inverted, the other sync bytes are unaltered, and any other byte is combined with the next eight outputs
+abbrev pub masked : ℕ → ℕ → ℕ
+masked place out = cond (eqb place 0) 255 (cond (eqb (place % 188) 0) 0 out)
+
 unfoldable pub mask : ℕ → ℕ
-unfolding outputs before
-mask zero = 255
-mask (suc k) = cond (eqb (suc k % 188) 0) 0 (outputs 8 0 (before (suc k)))
+mask place = masked place (outputs 8 0 (before place))

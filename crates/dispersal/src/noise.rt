@@ -3,16 +3,17 @@
 ghost use mathlib.Core.Path.{_≡_};
 ghost use Prim.Native.Nat.{ℕ, _+_, _%_, _^_, _<_};
 ghost use lib.Bits.{bitXor};
-ghost use Rattle.dispersal.specs.Noise.{mask, outputs, before};
+ghost use Rattle.dispersal.specs.Noise.{mask, masked, moved-on, outputs, run, before};
 
-// The register's position 1 is its lowest bit.
+// 100101010000000, from position 1 on, which is the lowest bit.
+const LOADED: u16 = 0b000_0000_1010_1001;
+
 #[derive(Clone, Copy)]
 pub struct Noise {
     place: u16,
     register: u16,
     ghost within: { place < 1504 },
     ghost runs: { register ≡ before place },
-    ghost small: { register < 2 ^ 15 },
 }
 
 // The next eight outputs of the register, the first one highest.
@@ -23,10 +24,29 @@ fn next_outputs(register: u16) -> u8
     (((register >> 7) ^ (register >> 6)) & 0xff) as u8
 }
 
+// The register eight outputs on.
+fn run_on(register: u16, out: u8) -> u16
+    requires { ⌜ register < 2 ^ 15 ⌝ ∗ ⌜ out ≡ outputs 8 0 register ⌝ }
+    ensures { λ r. ⌜ r ≡ run 8 register ⌝ }
+{
+    ((register & 0x7f) << 8) + u16::from(out)
+}
+
+// The register before the byte after a place: it runs on over every byte but byte 0.
+fn moved(place: u16, register: u16, out: u8) -> u16
+    requires { ⌜ register < 2 ^ 15 ⌝ ∗ ⌜ out ≡ outputs 8 0 register ⌝ }
+    ensures { λ r. ⌜ r ≡ moved-on place register ⌝ }
+{
+    if place > 0 {
+        run_on(register, out)
+    } else {
+        register
+    }
+}
+
 // What the byte at a place is combined with, where the next eight outputs are `out`.
 fn mask_at(place: u16, out: u8) -> u8
-    requires { ⌜ out ≡ outputs 8 0 (before place) ⌝ }
-    ensures { λ r. ⌜ r ≡ mask place ⌝ }
+    ensures { λ r. ⌜ r ≡ masked place out ⌝ }
 {
     match place {
         0 => 0xff,
@@ -35,16 +55,11 @@ fn mask_at(place: u16, out: u8) -> u8
     }
 }
 
-// The register before the byte after a place: it runs on by eight outputs, but for byte 0.
-fn moved(place: u16, register: u16, out: u8) -> u16
-    requires { ⌜ register ≡ before place ⌝ ∗ ⌜ out ≡ outputs 8 0 register ⌝ }
-    ensures { λ r. ⌜ r ≡ before (place + 1) ⌝ ∗ ⌜ r < 2 ^ 15 ⌝ }
+fn next_place(place: u16) -> u16
+    requires { ⌜ place < 1504 ⌝ }
+    ensures { λ r. ⌜ r ≡ (place + 1) % 1504 ⌝ }
 {
-    if place == 0 {
-        register
-    } else {
-        ((register & 0x7f) << 8) + u16::from(out)
-    }
+    if place == 1503 { 0 } else { place + 1 }
 }
 
 impl Noise {
@@ -53,7 +68,7 @@ impl Noise {
     {
         Noise {
             place: 0,
-            register: 0b000_0000_1010_1001,
+            register: LOADED,
         }
     }
 
@@ -62,16 +77,15 @@ impl Noise {
         ensures out { λ r. ⌜ r ≡ bitXor byte (mask (now (self .entry) .place)) ⌝ }
         ensures on { λ _. ⌜ now (self .exit) .place ≡ (now (self .entry) .place + 1) % 1504 ⌝ }
     {
-        let Noise { place, register } = *self;
-        let out = next_outputs(register);
-        *self = if place == 1503 {
-            Noise::new()
+        let out = next_outputs(self.register);
+        let mask = mask_at(self.place, out);
+        let place = next_place(self.place);
+        let register = if place == 0 {
+            LOADED
         } else {
-            Noise {
-                place: place + 1,
-                register: moved(place, register, out),
-            }
+            moved(self.place, self.register, out)
         };
-        byte ^ mask_at(place, out)
+        *self = Noise { place, register };
+        byte ^ mask
     }
 }

@@ -5,4 +5,4 @@ use Rattle.dispersal.proofs.noise.Noise.new.Needs as need
 
 pub ghost-result : need.ghost-result
 unfolding before
-ghost-result c = (lit< tt, (refl, (lit< tt, tt)))
+ghost-result c = (lit< tt, (refl, tt))
