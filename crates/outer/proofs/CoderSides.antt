@@ -52,14 +52,13 @@ due-taken x y l b some room first rest =
     shifted (sixteen x) l (length-bytes 16 x) some room ∙ ap₂ (λ c r. c ∷ take (l - 1) r) (sym first) (sym rest)
 
 -- the 188th byte: its parity waits after it, and a packet begins
-pub sent-whole : (ws : List ℕ) (n x y z u : ℕ) → u < 256 → some ws ≡ false → 187 ≤ n
+pub sent-whole : (ws : List ℕ) (n x y z u : ℕ) → u < 256 → some ws ≡ false → ltb n 187 ≡ false
     → sixteen y ≡ stepped (sixteen x) u → sixteen z ≡ remainder []
     → _≡_ {A = Sending}
     (record { waits = u ∷ take 16 (sixteen y); future = coded (record { gone = 0; so-far = sixteen z }) })
     (offered (ltb u 256) (some ws) (record { waits = ws; future = coded (record { gone = n; so-far = sixteen x }) }) u)
-sent-whole ws n x y z u fits idle whole pushed new =
+sent-whole ws n x y z u fits idle last pushed new =
     let s : Progress = record { gone = n; so-far = sixteen x } in
-    let last = le-ltb n 187 whole in
     let w : u ∷ take 16 (sixteen y) ≡ passes s u =
     ap (λ r. u ∷ r) (take-all 16 (sixteen y) (omega (arith, length-bytes 16 y)) ∙ pushed)
     ∙ sym (ap (λ b. u ∷ cond b [] (stepped (sixteen x) u)) last) in

@@ -19,18 +19,15 @@ use Rattle.stage.specs.Rule.{Rule, Under}
 use Rattle.outer.specs.Serial.{last-bits, value-after, bits-of, byte-of, same, eighths, serializer}
 
 pub length-last-bits : (n x : ℕ) → length (last-bits n x) ≡ n
-unfolding last-bits
 length-last-bits zero x = refl
 length-last-bits (suc n) x = length-append (last-bits n (x / 2)) (x % 2 ∷ []) ∙ omega (arith, length-last-bits n (x / 2))
 
 pub last-bits-under : (n x : ℕ) → Under 2 (last-bits n x)
-unfolding last-bits
 last-bits-under zero x = tt
 last-bits-under (suc n) x = all-push (λ b. b < 2) (last-bits n (x / 2)) (x % 2) (last-bits-under n (x / 2)) (omega arith)
 
 -- one bit more
 pub last-bits-more : (n x b : ℕ) → b < 2 → last-bits (n + 1) (x * 2 + b) ≡ last-bits n x ++ b ∷ []
-unfolding last-bits
 last-bits-more n x b h =
     let p : (x * 2 + b) / 2 ≡ x = omega arith in
     let q : (x * 2 + b) % 2 ≡ b = omega arith in
@@ -38,7 +35,6 @@ last-bits-more n x b h =
 
 -- the first bit
 pub last-bits-first : (n x : ℕ) → last-bits (suc n) x ≡ (x / 2 ^ n) % 2 ∷ last-bits n x
-unfolding last-bits
 last-bits-first zero x = ap (λ y. y % 2 ∷ []) (omega arith)
 last-bits-first (suc n) x =
     ap (λ w. w ++ x % 2 ∷ []) (last-bits-first n (x / 2))
@@ -51,7 +47,7 @@ value-push a b (c ∷ bs) = value-push (a * 2 + c) b bs
 
 -- the bits of a number make the number
 pub value-last-bits : (n x : ℕ) → x < 2 ^ n → value-after 0 (last-bits n x) ≡ x
-unfolding last-bits value-after
+unfolding value-after
 value-last-bits zero x h = omega arith
 value-last-bits (suc n) x h =
     value-push 0 (x % 2) (last-bits n (x / 2))
@@ -78,7 +74,6 @@ room have bits h b = let p : have ≤ 7 = omega arith in omega (arith, pow-mono 
 
 -- what waits of a byte
 pub some-last-bits : (n x : ℕ) → some (last-bits n x) ≡ ltb 0 n
-unfolding last-bits
 some-last-bits zero x = refl
 some-last-bits (suc n) x = ap some (last-bits-first n x) ∙ sym (lt-ltb 0 (suc n) (omega arith))
 

@@ -7,7 +7,7 @@ use Rattle.stage.specs.Model.{Model, Sending, Receiving}
 use Rattle.outer.specs.Waiting.{listed}
 
 -- the last n bits of x, highest first
-unfoldable pub last-bits : ℕ → ℕ → List ℕ
+abbrev pub last-bits : ℕ → ℕ → List ℕ
 last-bits zero x = []
 last-bits (suc n) x = last-bits n (x / 2) ++ (x % 2) ∷ []
 

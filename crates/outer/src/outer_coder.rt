@@ -1,6 +1,7 @@
 // The outer coder as a stage (EN 300 744, clause 4.3.2): after every 188 bytes come the sixteen of their parity.
 // Input: bytes. Output: bytes, 204 for 188; receiving gives 188 for 204, or cause 2.
 ghost use Prim.Native.Nat.{ℕ, _<_, _≤_};
+ghost use lib.Dec.{ltb};
 ghost use mathlib.Core.Path.{_≡_};
 ghost use Rattle.stage.specs.Model.{new-sending, new-receiving};
 ghost use Rattle.outer.specs.Coder.{outer-coder, coder-sending, coder-receiving};
@@ -27,6 +28,13 @@ pub struct OuterCoder {
     ghost room: { left ≤ 16 },
     ghost gathering: { heard < 204 },
     ghost within: { place ≤ 188 },
+}
+
+// Whether a packet goes on after the next byte, where so many bytes of it have gone.
+fn packet_goes_on(sent: u8) -> bool
+    ensures { λ r. ⌜ r ≡ ltb sent 187 ⌝ }
+{
+    sent < 187
 }
 
 impl OuterCoder {
@@ -89,7 +97,7 @@ pub impl Stage for OuterCoder as OuterCoderStage {
         }
         self.out = Some(unit);
         self.parity.push(unit);
-        if self.sent < 187 {
+        if packet_goes_on(self.sent) {
             self.sent += 1;
         } else {
             let whole = self.parity;

@@ -1,6 +1,6 @@
 // The serializer as a stage: each byte becomes eight bits, highest first.
 // Input: bytes. Output: bits.
-ghost use Prim.Native.Nat.{_^_, _<_, _≤_};
+ghost use Prim.Native.Nat.{_/_, _%_, _^_, _<_, _≤_};
 ghost use mathlib.Core.Path.{_≡_};
 ghost use Rattle.outer.specs.Serial.{serializer as serializer-model, serial-sending, serial-receiving};
 ghost use Rattle.stage.specs.Model.{new-sending, new-receiving};
@@ -20,6 +20,14 @@ pub struct Serializer {
     ghost within: { left ≤ 8 },
     ghost short: { have < 8 },
     ghost small: { bits < 2 ^ have },
+}
+
+// The bit of a byte at a place, counted from the lowest one.
+fn bit(byte: u8, place: u8) -> u8
+    requires { ⌜ place < 8 ⌝ }
+    ensures { λ r. ⌜ r ≡ byte / 2 ^ place % 2 ⌝ }
+{
+    (byte >> place) % 2
 }
 
 impl Serializer {
@@ -89,7 +97,7 @@ pub impl Stage for Serializer as SerializerStage {
             return None;
         }
         self.left -= 1;
-        Some((self.byte >> self.left) & 1)
+        Some(bit(self.byte, self.left))
     }
 
     fn receive_offer(&mut self, unit: u8) -> Result<(), Refusal> {

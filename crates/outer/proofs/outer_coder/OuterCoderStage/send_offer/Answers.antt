@@ -33,8 +33,8 @@ returns-then-is-some c =
       side = waiting-sent _ _ (coder-sending (s .sent) (s .parity) (s .out) (s .due) (s .left)) u fits busy;
     }
 
-pub returns-else-self-lt187 : need.returns-else-self-lt187
-returns-else-self-lt187 c =
+pub returns-else-packet-goes-on : need.returns-else-packet-goes-on
+returns-else-packet-goes-on c =
     let s = c .args .self .now in
     let u = c .args .unit in
     let idle : some (listed (s .out) ++ take (s .left) (sixteen (s .due .register))) ≡ false =
@@ -45,5 +45,5 @@ returns-else-self-lt187 c =
       other = refl;
       answers = accepted _ _ (lt-ltb u 256 (omega arith)) idle;
       side = sent-whole _ (s .sent) (s .parity .register) (c .push .last .self .register) (c .new-self .result .register) u (omega arith) idle
-          (c .if-self-lt187 .left) (c .push .ensures .step) (c .new-self .ensures);
+          (sym (c .if-packet-goes-on .ensures tt)) (c .push .ensures) (c .new-self .ensures);
     }

@@ -37,7 +37,6 @@ returns-then-self-lt7 c =
     }
 
 pub returns-else-self-lt7 : need.returns-else-self-lt7
-unfolding last-bits
 returns-else-self-lt7 c =
     let s = c .args .self .now in
     let u = c .args .unit in

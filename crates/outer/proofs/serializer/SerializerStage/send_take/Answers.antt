@@ -1,9 +1,7 @@
-use Prim.Native.Nat.{_-_, _/_, _%_, _^_}
-use lib.Bits.{bitAnd}
+use Prim.Native.Nat.{_-_}
 use mathlib.Core.List.{[], _∷_}
 use mathlib.Core.Path.{_≡_, refl, sym, ap, _∙_}
 use native.Mathlib.Omega.{arith}
-use Rattle.std.proofs.shelf.Bits.{and-mask}
 use Rattle.stage.specs.Blocks.{block-sending}
 use Rattle.stage.specs.Model.{first, others}
 use Rattle.outer.specs.Serial.{bits-of, same, last-bits}
@@ -11,7 +9,6 @@ use Rattle.outer.proofs.Serial.{last-bits-taken}
 use Rattle.outer.proofs.serializer.SerializerStage.send_take.Needs as need
 
 pub returns-then-self-eq0 : need.returns-then-self-eq0
-unfolding last-bits
 returns-then-self-eq0 c =
     let s = c .args .self .now in
     let e : last-bits (s .left) (s .byte) ≡ [] = ap (λ n. last-bits n (s .byte)) (c .if-self-eq0 .taken) in
@@ -26,14 +23,12 @@ returns-then-self-eq0 c =
 pub returns : need.returns
 returns c =
     let s = c .args .self .now in
-    let bit = s .byte / 2 ^ (s .left - 1) in
-    let m : bitAnd bit 1 ≡ bit % 2 = and-mask bit 1 in
-    let e : last-bits (s .left) (s .byte) ≡ bitAnd bit 1 ∷ last-bits (s .left - 1) (s .byte) =
-    last-bits-taken (s .left) (s .byte) (omega arith) ∙ ap (λ b. b ∷ last-bits (s .left - 1) (s .byte)) (sym m) in
+    let e : last-bits (s .left) (s .byte) ≡ c .bit .result ∷ last-bits (s .left - 1) (s .byte) =
+    last-bits-taken (s .left) (s .byte) (omega arith) ∙ ap (λ b. b ∷ last-bits (s .left - 1) (s .byte)) (sym (c .bit .ensures)) in
     record {
       fixed = refl;
       other = refl;
       answers = sym (ap first e);
-      below = omega (arith, m);
+      below = omega (arith, c .bit .ensures);
       side = ap (λ w. block-sending same bits-of 1 w tt []) (sym (ap others e));
     }
