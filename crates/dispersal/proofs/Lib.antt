@@ -1,0 +1,4 @@
+pub mod Everywhere
+pub mod Octets
+pub mod Masks
+pub mod Restoring

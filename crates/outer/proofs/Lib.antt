@@ -1,0 +1,9 @@
+pub mod Waiting
+pub mod Idle
+pub mod Protecting
+pub mod CoderSides
+pub mod Ringing
+pub mod Tables
+pub mod Delaying
+pub mod Restoring
+pub mod Serial
