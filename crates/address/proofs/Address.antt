@@ -1,0 +1,26 @@
+-- H is a permutation, by one computed test for each mode; what else is computed from the rows.
+use mathlib.Core.Path.{_≡_, refl}
+use Prim.Native.Nat.{ℕ, _≤_}
+use lib.Dec.{lit≤}
+use Rattle.settings.specs.declared.mode.Mode.{Mode}
+use Rattle.settings.specs.declared.mode.Mode.the-variants.{TwoK, EightK}
+use Rattle.address.specs.Address.{row-of, addresses-of}
+use Rattle.address.specs.Permutation.{Permutes}
+use Rattle.address.proofs.Permutation.{permutes}
+
+permute-2K : Permutes 1512 (addresses-of TwoK)
+unfolding addresses-of
+permute-2K = permutes 1512 (addresses-of TwoK) refl
+
+permute-8K : Permutes 6048 (addresses-of EightK)
+unfolding addresses-of
+permute-8K = permutes 6048 (addresses-of EightK) refl
+
+pub addresses-permute : (m : Mode) → Permutes (row-of m .words) (addresses-of m)
+addresses-permute TwoK = permute-2K
+addresses-permute EightK = permute-8K
+
+-- the store for the longest symbol has room for every one
+pub words-fit : (m : Mode) → row-of m .words ≤ 6048
+words-fit TwoK = lit≤ tt
+words-fit EightK = lit≤ tt

@@ -1,0 +1,33 @@
+// H of one mode, worked out once and read at every symbol.
+ghost use lib.ListN.{take};
+ghost use mathlib.Core.Path.{_≡_};
+ghost use Rattle.address.specs.Address.{addresses-of, row-of};
+use super::generator::filled;
+use super::generator::words;
+use settings::Mode;
+
+#[derive(Drop)]
+pub struct Addresses {
+    mode: Mode,
+    // The first N places hold H.
+    table: [u16; 6048],
+    ghost filled: { take (row-of mode .words) table ≡ addresses-of mode },
+}
+
+impl Addresses {
+    pub fn new(mode: Mode) -> Addresses
+        ensures { λ r. ⌜ r .mode ≡ mode ⌝ }
+    {
+        Addresses {
+            mode,
+            table: filled(mode),
+        }
+    }
+
+    // H(0), H(1), up to H(N − 1).
+    pub fn list(&self) -> &[u16]
+        ensures { λ r. ⌜ now r ≡ addresses-of (now (self .entry) .mode) ⌝ }
+    {
+        &self.table[..words(self.mode)]
+    }
+}
