@@ -2,8 +2,12 @@
 pub mod codes;
 pub mod constellation;
 pub mod guard;
+pub mod hold;
 pub mod mode;
 pub mod rate;
+pub mod record;
+pub mod sheet;
+pub mod super_frame;
 
 pub use codes::Codes;
 pub use constellation::Constellation;
@@ -18,6 +22,7 @@ use mode::ModePartialEq;
 pub use rate::Rate;
 use rate::RateDebug;
 use rate::RatePartialEq;
+pub use sheet::Sheet;
 
 #[derive(Clone, Copy, PartialEq, Eq, Debug)]
 pub struct Settings {
