@@ -1,0 +1,4 @@
+pub mod Stores
+pub mod Gathering
+pub mod Digits
+pub mod BitBlocks

@@ -1,0 +1,4 @@
+pub mod Words
+pub mod BitInterleaver
+pub mod Published
+pub mod Vectors
