@@ -19,35 +19,35 @@ put : (xs full rest : List ℕ) (q x : ℕ) → length full ≤ length xs → ta
 put xs full rest q x s e =
     ap (λ ys. ys ++ rest) (take-more-set xs q x (room xs full rest q x s e)) ∙ append-assoc (take q xs) (x ∷ []) rest ∙ e
 
-module _ (w : Row) (full : List ℕ) (end i r q : ℕ) (xs : List ℕ) (turn : i < end) (long : length full ≤ length xs)
-    (inv : take q xs ++ addresses-from w (end - i) i r ≡ full) where
+module _ (w : Row) (n : ℕ) (full : List ℕ) (end i r q : ℕ) (xs : List ℕ) (turn : i < end) (long : length full ≤ length xs)
+    (inv : take q xs ++ addresses-from w n (end - i) i r ≡ full) where
   rest : List ℕ
-  rest = addresses-from w (end - (i + 1)) (i + 1) (following w i r)
+  rest = addresses-from w n (end - (i + 1)) (i + 1) (following w i r)
 
-  word : take q xs ++ kept (ltb (address w i r) (w .words)) (address w i r) rest ≡ full
+  word : take q xs ++ kept (ltb (address w i r) n) (address w i r) rest ≡ full
   unfolding rest
-  word = let e : end - i ≡ suc (end - (i + 1)) = omega arith in subst (λ (n : ℕ). take q xs ++ addresses-from w n i r ≡ full) e inv
+  word = let e : end - i ≡ suc (end - (i + 1)) = omega arith in subst (λ (t : ℕ). take q xs ++ addresses-from w n t i r ≡ full) e inv
 
-  next : address w i r < w .words → take q xs ++ address w i r ∷ rest ≡ full
-  next h = subst (λ b. take q xs ++ kept b (address w i r) rest ≡ full) (lt-ltb (address w i r) (w .words) h) word
+  next : address w i r < n → take q xs ++ address w i r ∷ rest ≡ full
+  next h = subst (λ b. take q xs ++ kept b (address w i r) rest ≡ full) (lt-ltb (address w i r) n h) word
 
-  pub fits : address w i r < w .words → q < length xs
+  pub fits : address w i r < n → q < length xs
   fits h = room xs full rest q (address w i r) long (next h)
 
-  pub wrote : address w i r < w .words → take (q + 1) (set xs q (address w i r)) ++ addresses-from w (end - (i + 1)) (i + 1) (following w i r) ≡ full
+  pub wrote : address w i r < n → take (q + 1) (set xs q (address w i r)) ++ addresses-from w n (end - (i + 1)) (i + 1) (following w i r) ≡ full
   unfolding rest
   wrote h = put xs full rest q (address w i r) long (next h)
 
-  pub passed : w .words ≤ address w i r → take q xs ++ addresses-from w (end - (i + 1)) (i + 1) (following w i r) ≡ full
+  pub passed : n ≤ address w i r → take q xs ++ addresses-from w n (end - (i + 1)) (i + 1) (following w i r) ≡ full
   unfolding rest
-  passed h = subst (λ b. take q xs ++ kept b (address w i r) rest ≡ full) (le-ltb (address w i r) (w .words) h) word
+  passed h = subst (λ b. take q xs ++ kept b (address w i r) rest ≡ full) (le-ltb (address w i r) n h) word
 
 -- after the last turn
-pub done : (w : Row) (full : List ℕ) (end i r q : ℕ) (xs : List ℕ) → end ≤ i → q ≤ length xs → length full ≡ w .words
-    → take q xs ++ addresses-from w (end - i) i r ≡ full → take (w .words) xs ≡ full
-done w full end i r q xs h short size inv =
+pub done : (w : Row) (n : ℕ) (full : List ℕ) (end i r q : ℕ) (xs : List ℕ) → end ≤ i → q ≤ length xs → length full ≡ n
+    → take q xs ++ addresses-from w n (end - i) i r ≡ full → take n xs ≡ full
+done w n full end i r q xs h short size inv =
     let e : end - i ≡ 0 = omega arith in
-    let f : take q xs ++ [] ≡ full = subst (λ (n : ℕ). take q xs ++ addresses-from w n i r ≡ full) e inv in
+    let f : take q xs ++ [] ≡ full = subst (λ (t : ℕ). take q xs ++ addresses-from w n t i r ≡ full) e inv in
     let g : take q xs ≡ full = sym (append-nil (take q xs)) ∙ f in
-    let n : q ≡ w .words = omega (arith, length-take q xs, ap length g) in
-    subst (λ (n : ℕ). take n xs ≡ full) n g
+    let last : q ≡ n = omega (arith, length-take q xs, ap length g) in
+    subst (λ (t : ℕ). take t xs ≡ full) last g

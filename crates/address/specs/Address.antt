@@ -8,6 +8,7 @@ use Prim.Native.Nat.{ℕ, zero, suc, _+_, _-_, _*_, _/_, _%_, _^_}
 use lib.Dec.{ltb}
 use Rattle.settings.specs.declared.mode.Mode.{Mode}
 use Rattle.settings.specs.declared.mode.Mode.the-variants.{TwoK, EightK}
+use Rattle.settings.specs.Mode.{symbol-cells}
 
 pub record Row : Type 0 where
   -- how many bits R′ has: Nr − 1
@@ -16,21 +17,17 @@ pub record Row : Type 0 where
   pub taps : List ℕ
   -- the place in R of each bit of R′, bit 0 first: tables 3a and 3b from right to left
   pub wires : List ℕ
-  -- how many words a symbol has: N
-  pub words : ℕ
 
 abbrev pub row-of : Mode → Row
 row-of TwoK = record {
   bits = 10;
   taps = 0 ∷ 3 ∷ [];
   wires = 4 ∷ 3 ∷ 9 ∷ 6 ∷ 2 ∷ 8 ∷ 1 ∷ 5 ∷ 7 ∷ 0 ∷ [];
-  words = 1512;
 }
 row-of EightK = record {
   bits = 12;
   taps = 0 ∷ 1 ∷ 4 ∷ 6 ∷ [];
   wires = 7 ∷ 1 ∷ 4 ∷ 2 ∷ 9 ∷ 6 ∷ 8 ∷ 10 ∷ 0 ∷ 3 ∷ 11 ∷ 5 ∷ [];
-  words = 6048;
 }
 
 -- bit k of n
@@ -64,11 +61,11 @@ abbrev pub kept : Bool → ℕ → List ℕ → List ℕ
 kept true x xs = x ∷ xs
 kept false x xs = xs
 
--- the addresses below N of the next n words of R′, the first of which is r and has the index i
-abbrev pub addresses-from : Row → ℕ → ℕ → ℕ → List ℕ
-addresses-from w zero i r = []
-addresses-from w (suc n) i r = kept (ltb (address w i r) (w .words)) (address w i r) (addresses-from w n (i + 1) (following w i r))
+-- the addresses below n of the next words of R′, the first of which is r and has the index i
+abbrev pub addresses-from : Row → ℕ → ℕ → ℕ → ℕ → List ℕ
+addresses-from w n zero i r = []
+addresses-from w n (suc turns) i r = kept (ltb (address w i r) n) (address w i r) (addresses-from w n turns (i + 1) (following w i r))
 
--- H: of all 2 ^ Nr words of R′, from the index 0
+-- H: the addresses below N of all 2 ^ Nr words of R′
 unfoldable pub addresses-of : Mode → List ℕ
-addresses-of m = addresses-from (row-of m) (2 ^ (row-of m .bits + 1)) 0 0
+addresses-of m = addresses-from (row-of m) (symbol-cells m) (2 ^ (row-of m .bits + 1)) 0 0

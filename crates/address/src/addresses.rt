@@ -1,9 +1,9 @@
 // H of one mode, worked out once and read at every symbol.
 ghost use lib.ListN.{take};
 ghost use mathlib.Core.Path.{_≡_};
-ghost use Rattle.address.specs.Address.{addresses-of, row-of};
+ghost use Rattle.address.specs.Address.{addresses-of};
+ghost use Rattle.settings.specs.Mode.{symbol-cells};
 use super::generator::filled;
-use super::generator::words;
 use settings::Mode;
 
 #[derive(Drop)]
@@ -11,7 +11,7 @@ pub struct Addresses {
     mode: Mode,
     // The first N places hold H.
     table: [u16; 6048],
-    ghost filled: { take (row-of mode .words) table ≡ addresses-of mode },
+    ghost filled: { take (symbol-cells mode) table ≡ addresses-of mode },
 }
 
 impl Addresses {
@@ -28,6 +28,6 @@ impl Addresses {
     pub fn list(&self) -> &[u16]
         ensures { λ r. ⌜ now r ≡ addresses-of (now (self .entry) .mode) ⌝ }
     {
-        &self.table[..words(self.mode)]
+        &self.table[..self.mode.symbol_cells() as usize]
     }
 }

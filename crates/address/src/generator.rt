@@ -3,18 +3,9 @@
 ghost use lib.ListN.{take};
 ghost use mathlib.Core.Path.{_≡_};
 ghost use Prim.Native.Nat.{_^_, _<_};
+ghost use Rattle.settings.specs.Mode.{symbol-cells};
 ghost use Rattle.address.specs.Address.{row-of, fed-back, stepped, following, wired, address, addresses-of};
 use settings::Mode;
-
-// N: how many words a symbol has.
-pub fn words(mode: Mode) -> usize
-    ensures { λ r. ⌜ r ≡ row-of mode .words ⌝ }
-{
-    match mode {
-        Mode::TwoK => 1512,
-        Mode::EightK => 6048,
-    }
-}
 
 // How many bits R′ has.
 fn bits(mode: Mode) -> u32
@@ -91,14 +82,15 @@ fn address_at(mode: Mode, i: u16, register: u16) -> u16
 
 // H, from the front of a store for the longest one; an address that is N or more is passed over.
 pub fn filled(mode: Mode) -> [u16; 6048]
-    ensures { λ r. ⌜ take (row-of mode .words) r ≡ addresses-of mode ⌝ }
+    ensures { λ r. ⌜ take (symbol-cells mode) r ≡ addresses-of mode ⌝ }
 {
+    let words = mode.symbol_cells() as u16;
     let mut table = [0; 6048];
     let mut register = 0;
     let mut q = 0;
     for i in 0..2 << bits(mode) {
         let at = address_at(mode, i, register);
-        if (at as usize) < words(mode) {
+        if at < words {
             table[q] = at;
             q += 1;
         }

@@ -1,12 +1,13 @@
 // What is known of H.
-ghost use Rattle.address.specs.Address.{addresses-of, row-of};
+ghost use Rattle.settings.specs.Mode.{symbol-cells};
+ghost use Rattle.address.specs.Address.{addresses-of};
 ghost use Rattle.address.specs.Permutation.{Permutes};
 ghost use Rattle.address.specs.Vectors.{Published, Recomputed};
 use settings::Mode;
 
 // H has each number below N once, and nothing else.
 pub fn permutes(mode: Mode) -> u8
-    ensures { λ _. ⌜ Permutes (row-of mode .words) (addresses-of mode) ⌝ }
+    ensures { λ _. ⌜ Permutes (symbol-cells mode) (addresses-of mode) ⌝ }
 {
     0
 }
