@@ -12,7 +12,11 @@ pub fn report(heap: Global, input: &[u8]) -> Result<String, AllocError>
 {
     match Sheet::of(input) {
         Ok(sheet) => {
-            let Sheet { packets, cells, hold } = sheet;
+            let Sheet {
+                packets,
+                cells,
+                hold,
+            } = sheet;
             format!(heap, "packets {packets}\ncells {cells}\nhold {hold}\n")
         }
         Err(refusal) => {
