@@ -5,6 +5,7 @@ ghost use mathlib.Core.Path.{_≡_};
 ghost use lib.Dec.{ltb};
 ghost use lib.ListN.{getD, drop};
 ghost use Rattle.address.specs.Address.{addresses-of};
+ghost use Rattle.permute.specs.Parity.{opposite};
 ghost use Rattle.permute.specs.Permuted.{permuted};
 ghost use Rattle.settings.specs.Mode.{symbol-cells};
 ghost use Rattle.inner_interleaver.specs.Sides.{Roomy, renewed, put-in, next-word, advanced};
@@ -61,6 +62,20 @@ impl Side {
         self.at < n
     }
 
+    // The symbol is whole: its moved words wait, and the next one has the other parity.
+    fn turn_over(&mut self, addresses: &Addresses)
+        ensures words { λ _. ⌜ now (self .exit) .words ≡ now (self .entry) .words ⌝ }
+        ensures have { λ _. ⌜ now (self .exit) .have ≡ 0 ⌝ }
+        ensures moved { λ _. ⌜ now (self .exit) .moved ≡ permuted (now (self .entry) .parity) (addresses-of (now (addresses .entry) .mode)) 0 (now (self .entry) .words) ++ drop (symbol-cells (now (addresses .entry) .mode)) (now (self .entry) .moved) ⌝ }
+        ensures at { λ _. ⌜ now (self .exit) .at ≡ 0 ⌝ }
+        ensures parity { λ _. ⌜ now (self .exit) .parity ≡ opposite (now (self .entry) .parity) ⌝ }
+    {
+        reorder(addresses, self.parity, &self.words, &mut self.moved);
+        self.have = 0;
+        self.at = 0;
+        self.parity = self.parity.other();
+    }
+
     // The next word, where nothing waits.
     pub fn put(&mut self, addresses: &Addresses, unit: u8)
         requires { ⌜ now self .have < symbol-cells (now addresses .mode) ⌝ }
@@ -70,10 +85,7 @@ impl Side {
         if self.have + 1 < addresses.list().len() {
             self.have += 1;
         } else {
-            reorder(addresses, self.parity, &self.words, &mut self.moved);
-            self.have = 0;
-            self.at = 0;
-            self.parity = self.parity.other();
+            self.turn_over(addresses);
         }
     }
 

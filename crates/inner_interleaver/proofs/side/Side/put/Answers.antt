@@ -27,5 +27,6 @@ returns-else-self-list c =
     let n = symbol-cells m in
     let size : length (c .list .result .now) ≡ n = ap length (c .list .ensures) ∙ addresses-permute m .size in
     let full : n ≤ s .have + 1 = omega (arith, size, c .if-self-list .left) in
-    (λ i. record { words = set (s .words) (s .have) u; have = 0; moved = c .reorder .ensures i; at = 0; parity = c .other-self .ensures i })
+    let o = c .turn-over .ensures in
+    (λ i. record { words = o .words i; have = o .have i; moved = o .moved i; at = o .at i; parity = o .parity i })
     ∙ sym (cond-false (ltb (s .have + 1) n) (with-word s u) (with-symbol m s u) (le-ltb (s .have + 1) n full))
