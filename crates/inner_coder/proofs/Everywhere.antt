@@ -1,0 +1,33 @@
+-- A test that antt computes at each number below n holds at each.
+use mathlib.Core.Path.{subst, sym}
+use mathlib.Core.Logic.{inl, inr}
+use mathlib.Core.Bool.{Bool, true, false}
+use Prim.Native.Nat.{ℕ, zero, suc, _<_}
+use native.Mathlib.Nat.{not-suc-le-zero}
+use native.Mathlib.Omega.{arith}
+use lib.Dec.{T}
+use Rattle.std.proofs.shelf.Tests.{cases-eq}
+
+abbrev pub both : Bool → Bool → Bool
+both true b = b
+both false b = false
+
+pub both-left : (a b : Bool) → T (both a b) → T a
+both-left true b t = tt
+both-left false b t = t
+
+pub both-right : (a b : Bool) → T (both a b) → T b
+both-right true b t = t
+both-right false b t = absurd t
+
+abbrev pub every : (ℕ → Bool) → ℕ → Bool
+every f zero = true
+every f (suc n) = both (f n) (every f n)
+
+pub at : (f : ℕ → Bool) (n : ℕ) → T (every f n) → (k : ℕ) → k < n → T (f k)
+at f zero t k h = absurd (not-suc-le-zero h)
+at f (suc n) t k h =
+    elim (cases-eq k n) [
+      | inl e ↦ subst (λ (m : ℕ). T (f m)) (sym e) (both-left (f n) (every f n) t)
+      | inr ne ↦ at f n (both-right (f n) (every f n) t) k (omega arith)
+    ]

@@ -1,0 +1,5 @@
+pub mod Everywhere
+pub mod Taps
+pub mod Coding
+pub mod Hearing
+pub mod Publishing
