@@ -1,6 +1,6 @@
 // The chart of the symbol interleaver (EN 300 744, clause 4.3.4.2): where each word of a symbol goes.
 // In: codes of the mode and the parity, and a buffer. Out: its first N marks, by the place after the interleaver.
-ghost use lib.ListN.{length, getD};
+ghost use lib.ListN.{length};
 ghost use mathlib.Core.Path.{_≡_};
 ghost use Prim.Native.Nat.{ℕ, _<_, _≤_};
 ghost use Rattle.refusal.specs.Numbers.{refused-by};
