@@ -2,7 +2,7 @@ use lib.Dec.{ltb}
 use lib.ListN.{take}
 use mathlib.Core.Bool.{true, false, _||_}
 use mathlib.Core.List.{_++_}
-use mathlib.Core.Path.{_≡_, refl, sym, ap, ap₂, _∙_}
+use mathlib.Core.Path.{_≡_, refl, sym, ap₂, _∙_}
 use native.Mathlib.Omega.{arith}
 use Rattle.std.proofs.shelf.Tests.{lt-ltb, le-ltb, or-left, or-right}
 use Rattle.std.specs.Options.{isSome}
