@@ -25,7 +25,7 @@ use Rattle.stage.specs.Rule.{Rule, Begins, Back, Numbered}
 use Rattle.stage.proofs.Faultless.{no-fault}
 use Rattle.stage.proofs.Holds.{capped-stops, capped-most, capped-grows, capped-claims}
 use Rattle.stage.proofs.Machine.{gives-sends, hears-from-hears, hears-from-faults}
-use Rattle.outer.specs.Coder.{Progress, new-packet, passes, progressed, coded, vanishes, failed-root, checked, decoded, hears-block, gathered, restored-from, plus-187, outer-coder}
+use Rattle.outer.specs.OuterCoder.{Progress, new-packet, passes, progressed, coded, vanishes, failed-root, checked, decoded, hears-block, gathered, restored-from, plus-187, outer-coder}
 use Rattle.outer.specs.Protection.{Sends-codewords, Hears-codewords}
 
 -- ---- sending

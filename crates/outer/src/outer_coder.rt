@@ -4,7 +4,7 @@ ghost use Prim.Native.Nat.{ℕ, _<_, _≤_};
 ghost use lib.Dec.{ltb};
 ghost use mathlib.Core.Path.{_≡_};
 ghost use Rattle.stage.specs.Model.{new-sending, new-receiving};
-ghost use Rattle.outer.specs.Coder.{outer-coder, failed-root, coder-sending, coder-receiving};
+ghost use Rattle.outer.specs.OuterCoder.{outer-coder, failed-root, coder-sending, coder-receiving};
 use reed::Parity;
 use reed::is_codeword;
 use refusal::Refusal;

@@ -3,7 +3,7 @@
 ghost use Prim.Native.Nat.{ℕ, _≤_};
 ghost use mathlib.Core.Path.{_≡_};
 ghost use Rattle.stage.specs.Model.{new-sending, new-receiving};
-ghost use Rattle.outer.specs.Interleaver.{outer-interleaver, interleaver-sending, interleaver-receiving};
+ghost use Rattle.outer.specs.OuterInterleaver.{outer-interleaver, interleaver-sending, interleaver-receiving};
 use crate::bank::Bank;
 use refusal::Refusal;
 use stage::Fault;

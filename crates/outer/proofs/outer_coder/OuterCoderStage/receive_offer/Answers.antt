@@ -7,7 +7,7 @@ use borrow.Author.Needs.{needs}
 use Rattle.std.proofs.shelf.Lists.{length-set}
 use Rattle.std.proofs.shelf.Tests.{lt-ltb, le-ltb, ltb-true, ltb-false, or-left, or-right}
 use Rattle.stage.proofs.Offers.{accepted, waiting, waiting-heard}
-use Rattle.outer.specs.Coder.{coder-receiving, checked, root-fault}
+use Rattle.outer.specs.OuterCoder.{coder-receiving, checked, root-fault}
 use Rattle.outer.proofs.CoderSides.{some-receiving, heard-more, heard-whole, none-waits}
 use Rattle.outer.proofs.outer_coder.OuterCoderStage.receive_offer.Needs as need
 use Rattle.outer.proofs.outer_coder.OuterCoderStage.receive_offer.Needs.{then-self-lt188·by·then-self-lt188, then-self-lt188·by·else-self-lt188·then-self}

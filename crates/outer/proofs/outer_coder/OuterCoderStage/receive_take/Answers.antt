@@ -4,7 +4,7 @@ use borrow.Author.Needs.{needs}
 use Rattle.std.specs.declared.result.Result.the-variants.{Err}
 use Rattle.stage.specs.Model.{others, first-or, fault-or, hushed}
 use Rattle.stage.proofs.Waits.{none-collected}
-use Rattle.outer.specs.Coder.{coder-receiving, root-fault, restored-from}
+use Rattle.outer.specs.OuterCoder.{coder-receiving, root-fault, restored-from}
 use Rattle.outer.proofs.CoderSides.{next-waits, none-waits}
 use Rattle.outer.proofs.outer_coder.OuterCoderStage.receive_take.Needs as need
 

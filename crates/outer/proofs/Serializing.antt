@@ -16,7 +16,7 @@ use Rattle.stage.proofs.Blocks.{blocks-rule}
 use Rattle.stage.specs.Blocks.{Coding}
 use Rattle.stage.specs.Model.{some}
 use Rattle.stage.specs.Rule.{Rule, Under}
-use Rattle.outer.specs.Serial.{last-bits, value-after, bits-of, byte-of, same, eighths, serializer}
+use Rattle.outer.specs.Serializer.{last-bits, value-after, bits-of, byte-of, same, eighths, serializer}
 
 pub length-last-bits : (n x : ℕ) → length (last-bits n x) ≡ n
 length-last-bits zero x = refl

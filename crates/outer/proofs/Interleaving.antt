@@ -19,7 +19,7 @@ use Rattle.stage.proofs.Faultless.{no-fault}
 use Rattle.stage.proofs.Holds.{capped-stops, capped-most, capped-grows, capped-claims}
 use Rattle.stage.proofs.Machine.{gives-sends, hears-from-hears, hears-from-faults}
 use Rattle.outer.specs.Branches.{Branches, Arriving, unreached, sending-depths, hearing-depths, new-branches, new-arriving, passed, passing, oldest, queue-now, sends-one, interleaved, hears-if, hears-one, arriving-after, restored, misplaced}
-use Rattle.outer.specs.Interleaver.{outer-interleaver, plus-2244}
+use Rattle.outer.specs.OuterInterleaver.{outer-interleaver, plus-2244}
 use Rattle.outer.specs.Delays.{past, Leaves, Leaving-vectors}
 use Rattle.outer.proofs.Delaying.{Follows, past-read, past-zero, past-left, passed-is, follows-on, follows-new, leaves-all, as-many}
 use Rattle.reed.proofs.Everywhere.{every, at}
