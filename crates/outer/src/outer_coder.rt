@@ -1,6 +1,6 @@
 // The outer coder as a stage (EN 300 744, clause 4.3.2): after every 188 bytes come the sixteen of their parity.
 // Input: bytes. Output: bytes, 204 for 188; receiving gives 188 for 204, or cause 2.
-ghost use Prim.Native.Nat.{ℕ, _<_, _≤_};
+ghost use Prim.Native.Nat.{_<_, _≤_};
 ghost use lib.Dec.{ltb};
 ghost use mathlib.Core.Path.{_≡_};
 ghost use Rattle.stage.specs.Model.{new-sending, new-receiving};
