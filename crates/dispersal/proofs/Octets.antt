@@ -1,7 +1,7 @@
 -- Eight outputs at once, at every register: a test that antt computes.
 use mathlib.Core.Path.{_≡_}
 use mathlib.Core.Bool.{Bool}
-use Prim.Native.Nat.{ℕ, _+_, _*_, _/_, _%_, _^_, _<_}
+use Prim.Native.Nat.{ℕ, _+_, _*_, _/_, _%_, _<_}
 use lib.Bits.{bitAnd, bitXor}
 use lib.Dec.{T, eqb, eqb→eq}
 use Rattle.dispersal.specs.Noise.{outputs, run}

@@ -10,7 +10,7 @@ use native.Mathlib.Nat.{mod-add-mod}
 use native.Mathlib.Omega.{arith}
 use Rattle.stage.specs.Machine.{gives}
 use Rattle.stage.specs.Model.{clean}
-use Rattle.stage.specs.Rule.{Alphabet, Rule, Under, Back, Numbered}
+use Rattle.stage.specs.Rule.{Rule, Under, Back, Numbered}
 use Rattle.stage.proofs.Faultless.{clean-hears, no-fault}
 use Rattle.stage.proofs.Holds.{capped-stops, capped-most, capped-grows, capped-claims}
 use Rattle.stage.proofs.Machine.{gives-sends}

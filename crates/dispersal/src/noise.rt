@@ -1,7 +1,7 @@
 // What the bytes of a group are combined with (EN 300 744, clause 4.3.1): the place in a group of 1504 bytes, and the register.
 // Input: a byte. Output: the byte combined with what belongs to its place.
 ghost use mathlib.Core.Path.{_≡_};
-ghost use Prim.Native.Nat.{ℕ, _+_, _%_, _^_, _<_};
+ghost use Prim.Native.Nat.{_+_, _%_, _^_, _<_};
 ghost use lib.Bits.{bitXor};
 ghost use Rattle.dispersal.specs.Noise.{mask, masked, moved-on, outputs, run, before};
 

@@ -15,9 +15,9 @@ use Rattle.std.specs.declared.option.Option.{Option}
 use Rattle.std.specs.declared.option.Option.the-variants.{Some, None}
 use Rattle.reed.specs.Code.{Codeword, remainder, stepped}
 use Rattle.reed.specs.Registers.{bytes-of, sixteen}
-use Rattle.stage.specs.Model.{Heard, Sending, Receiving, clean, silence, hushed, some, some-fault, some-or, some-heard, offered, heard}
+use Rattle.stage.specs.Model.{Heard, Sending, Receiving, silence, hushed, some, some-fault, some-or, some-heard, offered, heard}
 use Rattle.stage.proofs.Waits.{some-rest, next-rest, no-rest}
-use Rattle.outer.specs.Coder.{Progress, new-packet, passes, progressed, coded, checked, decoded, hears-block, gathered, restored-from, root-fault, vanishes}
+use Rattle.outer.specs.OuterCoder.{Progress, new-packet, passes, progressed, coded, checked, decoded, hears-block, gathered, restored-from, root-fault, vanishes}
 use Rattle.outer.specs.Waiting.{listed}
 use Rattle.outer.proofs.Idle.{idle-offered, idle-heard}
 use Rattle.outer.proofs.Protecting.{codeword-decides}

@@ -1,15 +1,14 @@
 -- What the branches hold, by places in the list of bytes that went in.
 use Prim.Native.Nat.{ℕ, zero, suc, _+_, _-_, _*_, _%_, _<_, _≤_}
 use lib.Dec.{leb}
-use lib.ListN.{length, getD, set, drop, replicate, length-append, length-drop}
-use mathlib.Core.Bool.{cond}
+use lib.ListN.{length, getD, set, drop, replicate, length-drop}
 use mathlib.Core.List.{List, [], _∷_, _++_, map, append-assoc}
-use mathlib.Core.Logic.{_⊎_, inl, inr, _≢_}
+use mathlib.Core.Logic.{inl, inr, _≢_}
 use mathlib.Core.Path.{_≡_, refl, sym, ap, ap₂, subst, _∙_}
 use native.Mathlib.Omega.{arith}
-use Rattle.std.proofs.shelf.Lists.{getD-append-left, getD-at, getD-past, getD-drop, getD-map, getD-replicate, getD-set-same, getD-set-other, length-replicate, length-set, length-map, length-push}
+use Rattle.std.proofs.shelf.Lists.{getD-append-left, getD-at, getD-drop, getD-map, getD-replicate, getD-set-same, getD-set-other, length-replicate, length-set, length-map, length-push}
 use Rattle.std.proofs.shelf.Tests.{cases-lt, cases-eq, cond-true, cond-false, le-leb, lt-leb}
-use Rattle.outer.specs.Branches.{Branches, queue-now, oldest, passed, passing, new-branches, sends-one, interleaved}
+use Rattle.outer.specs.Branches.{Branches, oldest, passed, passing, new-branches, interleaved}
 use Rattle.outer.specs.Delays.{past}
 
 pub past-read : (xs : List ℕ) (p d : ℕ) → d ≤ p → past xs p d ≡ getD xs (p - d) 0

@@ -1,12 +1,11 @@
 -- An offer to a side in which nothing waits.
 use Prim.Native.Nat.{ℕ, _<_}
 use lib.Dec.{ltb}
-use mathlib.Core.Bool.{true, false}
-use mathlib.Core.List.{List, []}
-use mathlib.Core.Path.{_≡_, sym, ap, ap₂, _∙_}
-use Rattle.std.proofs.shelf.Tests.{lt-ltb}
+use mathlib.Core.Bool.{false}
+use mathlib.Core.List.{List}
+use mathlib.Core.Path.{_≡_, ap, _∙_}
 use Rattle.stage.specs.Machine.{gives, hears-from}
-use Rattle.stage.specs.Model.{Heard, silence, some, some-heard, hushed, offered, heard}
+use Rattle.stage.specs.Model.{Heard, some, some-heard, hushed, offered, heard}
 use Rattle.stage.proofs.Machine.{gives-offered, hears-from-heard}
 use Rattle.stage.proofs.Waits.{none-waits, nothing-heard}
 

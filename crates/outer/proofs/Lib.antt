@@ -5,5 +5,5 @@ pub mod CoderSides
 pub mod Ringing
 pub mod Tables
 pub mod Delaying
-pub mod Restoring
-pub mod Serial
+pub mod Interleaving
+pub mod Serializing

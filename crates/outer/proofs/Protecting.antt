@@ -12,21 +12,20 @@ use native.Mathlib.Omega.{arith}
 use Rattle.std.proofs.shelf.Elements.{all-append, all-push, all-take}
 use Rattle.std.proofs.shelf.Lists.{length-push, take-at}
 use Rattle.std.proofs.shelf.Sums.{folded-push}
-use Rattle.std.proofs.shelf.Tests.{cases-lt, cases-eq, lt-ltb, le-ltb, eqb-true, eq-eqb, and-parts, and-from, true≢false}
+use Rattle.std.proofs.shelf.Tests.{cases-lt, cases-eq, lt-ltb, le-ltb, eqb-true, eq-eqb, and-parts, and-from}
 use Rattle.std.specs.Orderings.{Decides}
-use Rattle.std.specs.declared.option.Option.the-variants.{Some, None}
+use Rattle.std.specs.declared.option.Option.the-variants.{Some}
 use Rattle.reed.specs.Code.{remainder, stepped, Bytes, Codeword}
 use Rattle.reed.specs.Field.{power, value}
 use Rattle.reed.proofs.Codewords.{protected-codeword}
-use Rattle.reed.proofs.Roots.{vanishing}
-use Rattle.reed.proofs.Sizes.{length-remainder, bytes-stepped, bytes-remainder}
+use Rattle.reed.proofs.Sizes.{bytes-stepped, bytes-remainder}
 use Rattle.stage.specs.declared.Fault.{Fault}
 use Rattle.stage.specs.Model.{Heard, and-then, clean, silence}
 use Rattle.stage.specs.Rule.{Rule, Begins, Back, Numbered}
 use Rattle.stage.proofs.Faultless.{no-fault}
 use Rattle.stage.proofs.Holds.{capped-stops, capped-most, capped-grows, capped-claims}
 use Rattle.stage.proofs.Machine.{gives-sends, hears-from-hears, hears-from-faults}
-use Rattle.outer.specs.Coder.{Progress, new-packet, passes, progressed, coded, vanishes, failed-root, checked, decoded, hears-block, gathered, restored-from, after-187, outer-coder}
+use Rattle.outer.specs.OuterCoder.{Progress, new-packet, passes, progressed, coded, vanishes, failed-root, checked, decoded, hears-block, gathered, restored-from, plus-187, outer-coder}
 use Rattle.outer.specs.Protection.{Sends-codewords, Hears-codewords}
 
 -- ---- sending
@@ -232,7 +231,7 @@ law xs m h =
     (record {
       clean = refl;
       begins = k .begins;
-      within = λ below. omega (arith, k .few, capped-claims after-187 m below);
+      within = λ below. omega (arith, k .few, capped-claims plus-187 m below);
     })
 
 -- units stay below 256
@@ -283,9 +282,9 @@ coder-rule = record {
   given-is = inr (8, lit≤ tt, lit≤ tt, refl);
   size-some = lit≤ tt;
   size-stops = lit≤ tt;
-  hold-stops = capped-stops after-187;
-  hold-grows = capped-grows after-187 (λ m n h. omega arith);
-  hold-most = capped-most after-187;
+  hold-stops = capped-stops plus-187;
+  hold-grows = capped-grows plus-187 (λ m n h. omega arith);
+  hold-most = capped-most plus-187;
   sends-grow = gives-sends passes progressed new-packet;
   hears-grow = hears-from-hears hears-block gathered [];
   sends-under = λ xs h. sends-bytes new-packet xs (bytes-remainder []) h;

@@ -5,7 +5,7 @@ use lib.ListN.{length, getD}
 use mathlib.Core.Bool.{cond}
 use mathlib.Core.List.{List}
 use mathlib.Core.Path.{_≡_}
-use Rattle.outer.specs.Interleaver.{outer-interleaver}
+use Rattle.outer.specs.OuterInterleaver.{outer-interleaver}
 
 -- the byte d places before place p, 0 before the first
 abbrev pub past : List ℕ → ℕ → ℕ → ℕ

@@ -1,9 +1,9 @@
 pub mod Waiting
-pub mod Coder
+pub mod OuterCoder
 pub mod Protection
 pub mod Branches
 pub mod Rings
 pub mod Banks
-pub mod Interleaver
+pub mod OuterInterleaver
 pub mod Delays
-pub mod Serial
+pub mod Serializer

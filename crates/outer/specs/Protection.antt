@@ -6,7 +6,7 @@ use mathlib.Core.Path.{_≡_}
 use Rattle.std.specs.declared.option.Option.the-variants.{Some}
 use Rattle.reed.specs.Code.{Codeword}
 use Rattle.stage.specs.Model.{and-then, clean}
-use Rattle.outer.specs.Coder.{outer-coder, failed-root}
+use Rattle.outer.specs.OuterCoder.{outer-coder, failed-root}
 
 -- Each packet is sent as a codeword that begins with it; what is left over is passed on.
 pub record Sends-codewords : Type 0 where

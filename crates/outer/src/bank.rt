@@ -1,6 +1,6 @@
 // Twelve branches, which take the bytes in turn (EN 300 744, clause 4.3.2).
 // Input: a byte. Output: the byte that leaves the branch whose turn it is.
-ghost use Prim.Native.Nat.{ℕ, _<_};
+ghost use Prim.Native.Nat.{_<_};
 ghost use lib.ListN.{getD, set, drop};
 ghost use mathlib.Core.List.{[], _∷_, _++_, map};
 ghost use mathlib.Core.Path.{_≡_};

@@ -1,6 +1,6 @@
 // A branch of the outer interleaver (EN 300 744, clause 4.3.2): a delay line of fixed depth.
 // Input: a byte. Output: the byte that went in `depth` bytes before, 0 where there was none.
-ghost use Prim.Native.Nat.{ℕ, _<_, _≤_, max};
+ghost use Prim.Native.Nat.{_<_, _≤_, max};
 ghost use lib.ListN.{drop, replicate};
 ghost use mathlib.Core.List.{_∷_, [], _++_};
 ghost use mathlib.Core.Path.{_≡_};

@@ -1,6 +1,9 @@
 // The outer stages (EN 300 744, clause 4.3.2): outer coder, outer interleaver, and the serializer that hands bits on.
+ghost use mathlib.Core.List.{[], _∷_};
+ghost use mathlib.Core.Path.{_≡_};
 ghost use Rattle.outer.specs.Delays.{Leaves, Leaving-vectors};
 ghost use Rattle.outer.specs.Protection.{Sends-codewords, Hears-codewords};
+ghost use Rattle.outer.specs.Serializer.{serializer as serializer-model};
 
 mod bank;
 mod branch;
@@ -25,4 +28,8 @@ pub fn bytes_leave_later()
 
 pub fn interleaver_vectors()
     ensures { λ _. ⌜ Leaving-vectors ⌝ }
+{}
+
+pub fn serializer_vectors()
+    ensures { λ _. ⌜ serializer-model .sends (0x47 ∷ 0x1F ∷ []) ≡ 0 ∷ 1 ∷ 0 ∷ 0 ∷ 0 ∷ 1 ∷ 1 ∷ 1 ∷ 0 ∷ 0 ∷ 0 ∷ 1 ∷ 1 ∷ 1 ∷ 1 ∷ 1 ∷ [] ⌝ }
 {}

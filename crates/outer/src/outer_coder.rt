@@ -1,10 +1,10 @@
 // The outer coder as a stage (EN 300 744, clause 4.3.2): after every 188 bytes come the sixteen of their parity.
 // Input: bytes. Output: bytes, 204 for 188; receiving gives 188 for 204, or cause 2.
-ghost use Prim.Native.Nat.{ℕ, _<_, _≤_};
+ghost use Prim.Native.Nat.{_<_, _≤_};
 ghost use lib.Dec.{ltb};
 ghost use mathlib.Core.Path.{_≡_};
 ghost use Rattle.stage.specs.Model.{new-sending, new-receiving};
-ghost use Rattle.outer.specs.Coder.{outer-coder, coder-sending, coder-receiving};
+ghost use Rattle.outer.specs.OuterCoder.{outer-coder, failed-root, coder-sending, coder-receiving};
 use reed::Parity;
 use reed::is_codeword;
 use refusal::Refusal;
@@ -35,6 +35,19 @@ fn packet_goes_on(sent: u8) -> bool
     ensures { λ r. ⌜ r ≡ ltb sent 187 ⌝ }
 {
     sent < 187
+}
+
+// The same of a block that arrives.
+fn block_goes_on(heard: usize) -> bool
+    ensures { λ r. ⌜ r ≡ ltb heard 203 ⌝ }
+{
+    heard < 203
+}
+
+fn root_fails() -> Fault
+    ensures { λ r. ⌜ r ≡ failed-root ⌝ }
+{
+    Fault { stage: 1, cause: 2 }
 }
 
 impl OuterCoder {
@@ -125,7 +138,7 @@ pub impl Stage for OuterCoder as OuterCoderStage {
             return Err(Refusal::SomethingWaits);
         }
         self.block[self.heard] = unit;
-        if self.heard < 203 {
+        if block_goes_on(self.heard) {
             self.heard += 1;
             return Ok(());
         }
@@ -145,7 +158,7 @@ pub impl Stage for OuterCoder as OuterCoderStage {
             return Ok(Some(byte));
         }
         if self.failed {
-            return Err(Fault { stage: 1, cause: 2 });
+            return Err(root_fails());
         }
         Ok(None)
     }

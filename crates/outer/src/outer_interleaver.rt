@@ -1,9 +1,9 @@
 // The outer interleaver as a stage (EN 300 744, clause 4.3.2): twelve branches with delays of 0, 204, .. 2244 bytes.
 // Input: bytes. Output: bytes, one for each; receiving drops the first 2244.
-ghost use Prim.Native.Nat.{ℕ, _≤_};
+ghost use Prim.Native.Nat.{_≤_};
 ghost use mathlib.Core.Path.{_≡_};
 ghost use Rattle.stage.specs.Model.{new-sending, new-receiving};
-ghost use Rattle.outer.specs.Interleaver.{outer-interleaver, interleaver-sending, interleaver-receiving};
+ghost use Rattle.outer.specs.OuterInterleaver.{outer-interleaver, interleaver-sending, interleaver-receiving};
 use crate::bank::Bank;
 use refusal::Refusal;
 use stage::Fault;

@@ -2,7 +2,7 @@
 // Input: bytes. Output: bits.
 ghost use Prim.Native.Nat.{_/_, _%_, _^_, _<_, _≤_};
 ghost use mathlib.Core.Path.{_≡_};
-ghost use Rattle.outer.specs.Serial.{serializer as serializer-model, serial-sending, serial-receiving};
+ghost use Rattle.outer.specs.Serializer.{serializer as serializer-model, serial-sending, serial-receiving};
 ghost use Rattle.stage.specs.Model.{new-sending, new-receiving};
 use refusal::Refusal;
 use stage::Fault;

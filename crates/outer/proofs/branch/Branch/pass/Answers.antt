@@ -1,5 +1,5 @@
-use Prim.Native.Nat.{ℕ, _+_, _<_, _≤_, max}
-use lib.ListN.{length, getD, set, take, drop}
+use Prim.Native.Nat.{ℕ, _+_, _<_}
+use lib.ListN.{length, set, take, drop}
 use mathlib.Core.List.{List, [], _∷_, _++_}
 use mathlib.Core.Path.{_≡_, sym, ap, _∙_}
 use native.Mathlib.Omega.{arith}

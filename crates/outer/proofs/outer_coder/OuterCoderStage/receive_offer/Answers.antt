@@ -5,9 +5,9 @@ use mathlib.Core.Path.{_≡_, refl, sym, ap, ap₂, _∙_}
 use native.Mathlib.Omega.{arith}
 use borrow.Author.Needs.{needs}
 use Rattle.std.proofs.shelf.Lists.{length-set}
-use Rattle.std.proofs.shelf.Tests.{lt-ltb, le-ltb, or-left, or-right}
+use Rattle.std.proofs.shelf.Tests.{lt-ltb, le-ltb, ltb-true, ltb-false, or-left, or-right}
 use Rattle.stage.proofs.Offers.{accepted, waiting, waiting-heard}
-use Rattle.outer.specs.Coder.{coder-receiving, checked, root-fault}
+use Rattle.outer.specs.OuterCoder.{coder-receiving, checked, root-fault}
 use Rattle.outer.proofs.CoderSides.{some-receiving, heard-more, heard-whole, none-waits}
 use Rattle.outer.proofs.outer_coder.OuterCoderStage.receive_offer.Needs as need
 use Rattle.outer.proofs.outer_coder.OuterCoderStage.receive_offer.Needs.{then-self-lt188·by·then-self-lt188, then-self-lt188·by·else-self-lt188·then-self}
@@ -31,8 +31,8 @@ returns-then-self-lt188 c =
       side = waiting-heard _ _ (coder-receiving (s .block) (s .heard) (s .place) (s .failed)) u fits busy;
     }
 
-pub returns-then-self-lt203 : need.returns-then-self-lt203
-returns-then-self-lt203 c =
+pub returns-then-block-goes-on : need.returns-then-block-goes-on
+returns-then-block-goes-on c =
     let s = c .args .self .now in
     let u = c .args .unit in
     let long : length (s .block) ≡ 204 = search needs in
@@ -42,7 +42,7 @@ returns-then-self-lt203 c =
       other = refl;
       answers = accepted _ _ (lt-ltb u 256 (omega arith)) idle;
       side = heard-more (s .block) (s .heard) (s .place) u (s .failed) long (omega arith) (s .gathering) (c .if-self-lt188 .left) (c .if-self .left)
-          (c .if-self-lt203 .taken);
+          (ltb-true (s .heard) 203 (sym (c .if-block-goes-on .ensures tt)));
     }
 
 pub returns-then-is-codeword : need.returns-then-is-codeword
@@ -56,7 +56,7 @@ returns-then-is-codeword c =
       other = refl;
       answers = accepted _ _ (lt-ltb u 256 (omega arith)) idle;
       side = heard-whole (s .block) (s .heard) (s .place) u (s .failed) long (omega arith) (s .gathering) (c .if-self-lt188 .left) (c .if-self .left)
-          (c .if-self-lt203 .left) (c .is-codeword .result) (c .is-codeword .ensures) _
+          (ltb-false (s .heard) 203 (sym (c .if-block-goes-on .ensures tt))) (c .is-codeword .result) (c .is-codeword .ensures) _
           (ap (λ f. record { units = take 188 (set (s .block) (s .heard) u); fault = root-fault f }) (c .if-self .left)
           ∙ sym (ap (λ v. checked v (set (s .block) (s .heard) u)) (c .if-is-codeword .taken)));
     }
@@ -72,7 +72,7 @@ returns-else-is-codeword c =
       other = refl;
       answers = accepted _ _ (lt-ltb u 256 (omega arith)) idle;
       side = heard-whole (s .block) (s .heard) (s .place) u (s .failed) long (omega arith) (s .gathering) (c .if-self-lt188 .left) (c .if-self .left)
-          (c .if-self-lt203 .left) (c .is-codeword .result) (c .is-codeword .ensures) _
+          (ltb-false (s .heard) 203 (sym (c .if-block-goes-on .ensures tt))) (c .is-codeword .result) (c .is-codeword .ensures) _
           (ap (λ us. record { units = us; fault = root-fault true })
           (none-waits (set (s .block) (s .heard) u) (length-set (s .block) (s .heard) u ∙ long) (s .place) (c .if-self-lt188 .left))
           ∙ sym (ap (λ v. checked v (set (s .block) (s .heard) u)) (c .if-is-codeword .left)));

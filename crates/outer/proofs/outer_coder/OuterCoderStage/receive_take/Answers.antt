@@ -1,9 +1,10 @@
 use lib.ListN.{length, take}
-use mathlib.Core.Path.{_≡_, refl, sym, ap, ap₂}
+use mathlib.Core.Path.{_≡_, refl, sym, ap, ap₂, _∙_}
 use borrow.Author.Needs.{needs}
+use Rattle.std.specs.declared.result.Result.the-variants.{Err}
 use Rattle.stage.specs.Model.{others, first-or, fault-or, hushed}
 use Rattle.stage.proofs.Waits.{none-collected}
-use Rattle.outer.specs.Coder.{coder-receiving, root-fault, restored-from}
+use Rattle.outer.specs.OuterCoder.{coder-receiving, root-fault, restored-from}
 use Rattle.outer.proofs.CoderSides.{next-waits, none-waits}
 use Rattle.outer.proofs.outer_coder.OuterCoderStage.receive_take.Needs as need
 
@@ -31,7 +32,7 @@ returns-then-self c =
     record {
       fixed = refl;
       other = refl;
-      answers = sym (ap₂ (λ us f. first-or us (fault-or (root-fault f))) none (c .if-self .taken));
+      answers = ap Err (c .root-fails .ensures) ∙ sym (ap₂ (λ us f. first-or us (fault-or (root-fault f))) none (c .if-self .taken));
       below = tt;
       side = sym (none-collected (coder-receiving (s .block) (s .heard) (s .place) (s .failed)) none);
     }

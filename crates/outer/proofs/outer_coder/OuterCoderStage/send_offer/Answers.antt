@@ -2,14 +2,14 @@ use lib.Dec.{ltb}
 use lib.ListN.{take}
 use mathlib.Core.Bool.{true, false, _||_}
 use mathlib.Core.List.{_++_}
-use mathlib.Core.Path.{_≡_, refl, sym, ap, ap₂, _∙_}
+use mathlib.Core.Path.{_≡_, refl, sym, ap₂, _∙_}
 use native.Mathlib.Omega.{arith}
 use Rattle.std.proofs.shelf.Tests.{lt-ltb, le-ltb, or-left, or-right}
 use Rattle.std.specs.Options.{isSome}
 use Rattle.reed.specs.Registers.{sixteen}
 use Rattle.stage.specs.Model.{some}
 use Rattle.stage.proofs.Offers.{accepted, waiting, waiting-sent}
-use Rattle.outer.specs.Coder.{coder-sending}
+use Rattle.outer.specs.OuterCoder.{coder-sending}
 use Rattle.outer.specs.Waiting.{listed}
 use Rattle.outer.proofs.CoderSides.{some-sending, sent-whole}
 use Rattle.outer.proofs.outer_coder.OuterCoderStage.send_offer.Needs as need

@@ -1,6 +1,6 @@
 use Rattle.stage.proofs.Hearing.{hushed-hears}
 use Rattle.stage.proofs.Machine.{gives-sends, hears-from-hears}
-use Rattle.outer.specs.Coder.{passes, progressed, hears-block, gathered, root-fault}
+use Rattle.outer.specs.OuterCoder.{passes, progressed, hears-block, gathered, root-fault}
 use Rattle.outer.proofs.Protecting.{coder-rule}
 use Rattle.outer.proofs.outer_coder.OuterCoderStage.the-impl.Needs as need
 

@@ -1,8 +1,8 @@
 use Rattle.stage.proofs.Hearing.{hushed-hears}
 use Rattle.stage.proofs.Machine.{gives-sends, hears-from-hears}
 use Rattle.outer.specs.Branches.{sends-one, passing, hears-one, arriving-after}
-use Rattle.outer.specs.Interleaver.{fault-if}
-use Rattle.outer.proofs.Restoring.{interleaver-rule}
+use Rattle.outer.specs.OuterInterleaver.{fault-if}
+use Rattle.outer.proofs.Interleaving.{interleaver-rule}
 use Rattle.outer.proofs.outer_interleaver.OuterInterleaverStage.the-impl.Needs as need
 
 pub rule-law : need.rule-law

@@ -5,8 +5,8 @@ use native.Mathlib.Omega.{arith}
 use Rattle.std.proofs.shelf.Tests.{lt-ltb, le-ltb}
 use Rattle.stage.proofs.Blocks.{sent-whole}
 use Rattle.stage.proofs.Offers.{accepted, accepted-sent, waiting, waiting-sent}
-use Rattle.outer.specs.Serial.{bits-of, same, last-bits, serial-sending}
-use Rattle.outer.proofs.Serial.{some-last-bits}
+use Rattle.outer.specs.Serializer.{bits-of, same, last-bits, serial-sending}
+use Rattle.outer.proofs.Serializing.{some-last-bits}
 use Rattle.outer.proofs.serializer.SerializerStage.send_offer.Needs as need
 
 pub returns-then-self-gt0 : need.returns-then-self-gt0

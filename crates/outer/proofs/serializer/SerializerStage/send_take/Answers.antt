@@ -4,8 +4,8 @@ use mathlib.Core.Path.{_≡_, refl, sym, ap, _∙_}
 use native.Mathlib.Omega.{arith}
 use Rattle.stage.specs.Blocks.{block-sending}
 use Rattle.stage.specs.Model.{first, others}
-use Rattle.outer.specs.Serial.{bits-of, same, last-bits}
-use Rattle.outer.proofs.Serial.{last-bits-taken}
+use Rattle.outer.specs.Serializer.{bits-of, same, last-bits}
+use Rattle.outer.proofs.Serializing.{last-bits-taken}
 use Rattle.outer.proofs.serializer.SerializerStage.send_take.Needs as need
 
 pub returns-then-self-eq0 : need.returns-then-self-eq0

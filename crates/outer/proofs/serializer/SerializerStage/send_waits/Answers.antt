@@ -1,5 +1,5 @@
 use mathlib.Core.Path.{refl, sym}
-use Rattle.outer.proofs.Serial.{some-last-bits}
+use Rattle.outer.proofs.Serializing.{some-last-bits}
 use Rattle.outer.proofs.serializer.SerializerStage.send_waits.Needs as need
 
 pub returns : need.returns

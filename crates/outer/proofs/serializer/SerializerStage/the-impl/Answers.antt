@@ -1,7 +1,7 @@
 use mathlib.Core.List.{[]}
 use Rattle.stage.proofs.Blocks.{blocks-sends, blocks-hears}
-use Rattle.outer.specs.Serial.{bits-of, byte-of, same, last-bits}
-use Rattle.outer.proofs.Serial.{serializer-rule}
+use Rattle.outer.specs.Serializer.{bits-of, byte-of, same, last-bits}
+use Rattle.outer.proofs.Serializing.{serializer-rule}
 use Rattle.outer.proofs.serializer.SerializerStage.the-impl.Needs as need
 
 pub rule-law : need.rule-law

@@ -1,16 +1,16 @@
 -- The outer interleaver keeps the stage rule: what was sent is back 2244 bytes later.
 use Prim.Native.Nat.{ℕ, zero, suc, _+_, _-_, _*_, _%_, _<_, _≤_, min}
 use lib.Dec.{T, ltb, eqb, eqb→eq, lit≤}
-use lib.ListN.{length, getD, set, take, drop, replicate, length-append, length-take, take-append-drop}
-use mathlib.Core.Bool.{Bool, true, false, not, _&&_, cond}
+use lib.ListN.{length, getD, take, drop, replicate, length-append, length-take, take-append-drop}
+use mathlib.Core.Bool.{Bool, true, false, not}
 use mathlib.Core.List.{List, [], _∷_, _++_, map, append-assoc}
-use mathlib.Core.Logic.{_⊎_, inl, inr}
+use mathlib.Core.Logic.{inl, inr}
 use mathlib.Core.Path.{_≡_, refl, sym, ap, ap₂, subst, _∙_}
 use native.Mathlib.Omega.{arith}
-use Rattle.std.proofs.shelf.Elements.{all-from-getD, all-getD, all-append, all-drop, all-set}
+use Rattle.std.proofs.shelf.Elements.{all-getD, all-append, all-drop, all-set}
 use Rattle.std.proofs.shelf.Lists.{getD-take, getD-at, getD-past, drop-more, length-push}
-use Rattle.std.proofs.shelf.Tests.{cases-lt, lt-ltb, le-ltb, ltb-true, eq-eqb, and-left, and-right}
-use Rattle.std.specs.declared.option.Option.the-variants.{Some, None}
+use Rattle.std.proofs.shelf.Tests.{cases-lt, lt-ltb, le-ltb, eq-eqb, and-left, and-right}
+use Rattle.std.specs.declared.option.Option.the-variants.{Some}
 use Rattle.std.specs.shelf.Lists.{All}
 use Rattle.stage.specs.declared.Fault.{Fault}
 use Rattle.stage.specs.Model.{Heard, and-then, clean}
@@ -19,7 +19,7 @@ use Rattle.stage.proofs.Faultless.{no-fault}
 use Rattle.stage.proofs.Holds.{capped-stops, capped-most, capped-grows, capped-claims}
 use Rattle.stage.proofs.Machine.{gives-sends, hears-from-hears, hears-from-faults}
 use Rattle.outer.specs.Branches.{Branches, Arriving, unreached, sending-depths, hearing-depths, new-branches, new-arriving, passed, passing, oldest, queue-now, sends-one, interleaved, hears-if, hears-one, arriving-after, restored, misplaced}
-use Rattle.outer.specs.Interleaver.{outer-interleaver, after-2244}
+use Rattle.outer.specs.OuterInterleaver.{outer-interleaver, plus-2244}
 use Rattle.outer.specs.Delays.{past, Leaves, Leaving-vectors}
 use Rattle.outer.proofs.Delaying.{Follows, past-read, past-zero, past-left, passed-is, follows-on, follows-new, leaves-all, as-many}
 use Rattle.reed.proofs.Everywhere.{every, at}
@@ -211,7 +211,7 @@ law xs m k =
     (record {
       clean = refl;
       begins = (drop (length zs - 2244) xs, sym (take-append-drop (length zs - 2244) xs));
-      within = λ below. simp length-take (omega (arith, capped-claims after-2244 m below));
+      within = λ below. simp length-take (omega (arith, capped-claims plus-2244 m below));
     })
 
 -- the only fault
@@ -226,9 +226,9 @@ interleaver-rule = record {
   given-is = inr (8, lit≤ tt, lit≤ tt, refl);
   size-some = lit≤ tt;
   size-stops = lit≤ tt;
-  hold-stops = capped-stops after-2244;
-  hold-grows = capped-grows after-2244 (λ m n h. omega arith);
-  hold-most = capped-most after-2244;
+  hold-stops = capped-stops plus-2244;
+  hold-grows = capped-grows plus-2244 (λ m n h. omega arith);
+  hold-most = capped-most plus-2244;
   sends-grow = gives-sends sends-one passing (new-branches sending-depths);
   hears-grow = hears-from-hears hears-one arriving-after new-arriving;
   sends-under = λ xs h. sends-bytes (new-branches sending-depths) xs (new-bytes sending-depths) h;

@@ -59,15 +59,15 @@ gathered block y = cond (ltb (length block) 203) (block ++ y ∷ []) []
 abbrev pub restored-from : List ℕ → List ℕ → Heard
 restored-from = hears-from hears-block gathered
 
-abbrev pub after-187 : ℕ → ℕ
-after-187 m = m + 187
+abbrev pub plus-187 : ℕ → ℕ
+plus-187 m = m + 187
 
 abbrev pub outer-coder : Model
 outer-coder = record {
   taken = 256;
   given = 256;
   size = 1;
-  hold = capped after-187;
+  hold = capped plus-187;
   sends = coded new-packet;
   hears = restored-from [];
 }

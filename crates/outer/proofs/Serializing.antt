@@ -5,7 +5,6 @@ use lib.ListN.{length, length-append}
 use mathlib.Core.List.{List, [], _∷_, _++_}
 use mathlib.Core.Logic.{inr}
 use mathlib.Core.Path.{_≡_, refl, sym, ap, ap₂, _∙_}
-use lib.Pow.{pow-mono}
 use native.Mathlib.Nat.{pow-suc, pow-succ', mul-assoc}
 use native.Mathlib.Numerals.{add-one, one-add}
 use native.Mathlib.Omega.{arith}
@@ -16,13 +15,13 @@ use Rattle.stage.proofs.Blocks.{blocks-rule}
 use Rattle.stage.specs.Blocks.{Coding}
 use Rattle.stage.specs.Model.{some}
 use Rattle.stage.specs.Rule.{Rule, Under}
-use Rattle.outer.specs.Serial.{last-bits, value-after, bits-of, byte-of, same, eighths, serializer}
+use Rattle.outer.specs.Serializer.{last-bits, value-after, bits-of, byte-of, same, eighths, serializer}
 
 pub length-last-bits : (n x : ℕ) → length (last-bits n x) ≡ n
 length-last-bits zero x = refl
 length-last-bits (suc n) x = length-append (last-bits n (x / 2)) (x % 2 ∷ []) ∙ omega (arith, length-last-bits n (x / 2))
 
-pub last-bits-under : (n x : ℕ) → Under 2 (last-bits n x)
+last-bits-under : (n x : ℕ) → Under 2 (last-bits n x)
 last-bits-under zero x = tt
 last-bits-under (suc n) x = all-push (λ b. b < 2) (last-bits n (x / 2)) (x % 2) (last-bits-under n (x / 2)) (omega arith)
 
@@ -34,7 +33,7 @@ last-bits-more n x b h =
     ap (λ k. last-bits k (x * 2 + b)) (add-one n) ∙ ap₂ (λ y c. last-bits n y ++ c ∷ []) p q
 
 -- the first bit
-pub last-bits-first : (n x : ℕ) → last-bits (suc n) x ≡ (x / 2 ^ n) % 2 ∷ last-bits n x
+last-bits-first : (n x : ℕ) → last-bits (suc n) x ≡ (x / 2 ^ n) % 2 ∷ last-bits n x
 last-bits-first zero x = ap (λ y. y % 2 ∷ []) (omega arith)
 last-bits-first (suc n) x =
     ap (λ w. w ++ x % 2 ∷ []) (last-bits-first n (x / 2))
@@ -46,7 +45,7 @@ value-push a b [] = refl
 value-push a b (c ∷ bs) = value-push (a * 2 + c) b bs
 
 -- the bits of a number make the number
-pub value-last-bits : (n x : ℕ) → x < 2 ^ n → value-after 0 (last-bits n x) ≡ x
+value-last-bits : (n x : ℕ) → x < 2 ^ n → value-after 0 (last-bits n x) ≡ x
 unfolding value-after
 value-last-bits zero x h = omega arith
 value-last-bits (suc n) x h =
@@ -65,12 +64,9 @@ value-below a (b ∷ bs) h =
     ap (λ k. k * p) t ∙ mul-assoc (a + 1) 2 p ∙ ap (λ k. (a + 1) * k) (sym (pow-succ' 2 (length bs))) in
     omega (arith, r, s, e)
 
--- the bits gathered with one more, and that there is room for it
+-- the bits gathered with one more
 pub gathered-small : (have bits unit : ℕ) → bits < 2 ^ have → unit < 2 → bits * 2 + unit < 2 ^ (have + 1)
 gathered-small have bits unit h u = omega (arith, ap (λ k. 2 ^ k) (add-one have), pow-suc 2 have)
-
-pub room : (have bits : ℕ) → have < 8 → bits < 2 ^ have → bits < 128
-room have bits h b = let p : have ≤ 7 = omega arith in omega (arith, pow-mono p)
 
 -- what waits of a byte
 pub some-last-bits : (n x : ℕ) → some (last-bits n x) ≡ ltb 0 n

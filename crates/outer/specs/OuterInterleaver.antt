@@ -11,15 +11,15 @@ use Rattle.outer.specs.Banks.{branches-of}
 use Rattle.outer.specs.Branches.{new-branches, sending-depths, interleaved, new-arriving, restored, unreached}
 use Rattle.outer.specs.Waiting.{listed}
 
-abbrev pub after-2244 : ℕ → ℕ
-after-2244 m = m + 2244
+abbrev pub plus-2244 : ℕ → ℕ
+plus-2244 m = m + 2244
 
 abbrev pub outer-interleaver : Model
 outer-interleaver = record {
   taken = 256;
   given = 256;
   size = 1;
-  hold = capped after-2244;
+  hold = capped plus-2244;
   sends = interleaved (new-branches sending-depths);
   hears = restored new-arriving;
 }
