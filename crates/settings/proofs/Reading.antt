@@ -12,8 +12,8 @@ use Rattle.settings.specs.declared.mode.Mode.the-variants.{TwoK, EightK}
 use Rattle.settings.specs.declared.constellation.Constellation.the-variants.{Qpsk, Qam16, Qam64}
 use Rattle.settings.specs.declared.rate.Rate.the-variants.{Half, TwoThirds, ThreeQuarters, FiveSixths, SevenEighths}
 use Rattle.settings.specs.declared.guard.Guard.the-variants.{ThirtySecond, Sixteenth, Eighth, Quarter}
-use Rattle.settings.specs.Coded.{Coded, and-then}
-use Rattle.settings.specs.Codes.{settings-codes, settings-read, Codes-stand}
+use Rattle.settings.specs.Coded.{Coded}
+use Rattle.settings.specs.Codes.{and-then, settings-codes, settings-read, Codes-stand}
 use Rattle.settings.specs.Mode.{modes, mode-read, mode-code}
 use Rattle.settings.specs.Constellation.{constellations, constellation-read, constellation-code}
 use Rattle.settings.specs.Rate.{rates, rate-read, rate-code}

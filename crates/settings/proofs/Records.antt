@@ -1,56 +1,84 @@
 -- A record is read exactly as the codes, and the settings, that it is written for.
-use Prim.Native.Nat.{ℕ, _+_, _*_}
+use Prim.Native.Nat.{ℕ, _+_, _*_, _/_, _%_, _<_}
+use borrow.Author.Tests.{eqb-true}
 use lib.Dec.{eqb}
 use lib.ListN.{length, getD}
-use mathlib.Core.Bool.{cond}
+use mathlib.Core.Bool.{true, cond, _&&_, _||_}
 use mathlib.Core.List.{List, [], _∷_}
-use mathlib.Core.Logic.{_⊎_, inl, inr}
-use mathlib.Core.Path.{_≡_, refl, _∙_, ap, sym, subst}
-use native.Mathlib.Nat.{div-add-mod}
+use mathlib.Core.Logic.{inl, inr}
+use mathlib.Core.Path.{_≡_, refl, _∙_, ap, sym}
+use native.Mathlib.Nat.{div-add-mod'}
 use native.Mathlib.Omega.{arith}
 use Rattle.std.specs.declared.option.Option.{Option}
 use Rattle.std.specs.declared.option.Option.the-variants.{Some, None}
 use Rattle.std.specs.declared.result.Result.the-variants.{Ok, Err}
-use Rattle.std.specs.shelf.Text.{sameBytes}
-use Rattle.std.proofs.shelf.Equals.{sameBytes-decides, text-from-reads}
-use Rattle.std.proofs.shelf.Tests.{cases-bool, cond-true, cond-false}
+use Rattle.std.specs.shelf.Lists.{All}
+use Rattle.std.proofs.shelf.Elements.{all-getD}
+use Rattle.std.proofs.shelf.Equals.{text-from-reads}
+use Rattle.std.proofs.shelf.Tests.{cases-bool, cond-true, cond-false, and-parts, or-cases}
 use Rattle.refusal.specs.declared.Refusal.the-variants.{RecordMalformed}
 use Rattle.settings.specs.declared.Settings.{Settings}
 use Rattle.settings.specs.declared.codes.Codes.{Codes}
-use Rattle.settings.specs.Coded.{and-then}
-use Rattle.settings.specs.Codes.{settings-codes, settings-read}
-use Rattle.settings.specs.Record.{record-of, codes-in, identifier-part, record-read, settings-from, Records-stand}
+use Rattle.settings.specs.Codes.{and-then, settings-codes, settings-read}
+use Rattle.settings.specs.Record.{record-of, codes-in, identifier-part, headed, flagged, record-read, settings-from, Records-stand}
 use Rattle.settings.proofs.Reading.{accepted, codes-stand}
 
-identified : (o : Option ℕ)
-    → cond (eqb (getD (identifier-part o) 0 0) 0) None (Some (256 * getD (identifier-part o) 1 0 + getD (identifier-part o) 2 0)) ≡ o
-identified None = refl
-identified (Some n) = ap Some (div-add-mod n 256)
+-- what is written for codes is read as them
+written : (m k r g : ℕ) (o : Option ℕ)
+    → record-read (0 ∷ 8 ∷ 1 ∷ m ∷ k ∷ r ∷ g ∷ identifier-part o) ≡ Ok (record { mode = m; constellation = k; rate = r; guard = g; identifier = o })
+written m k r g None = refl
+written m k r g (Some n) = ap (λ i. Ok (record { mode = m; constellation = k; rate = r; guard = g; identifier = Some i })) (div-add-mod' n 256)
 
--- what is written stands at its places
-written : (c : Codes) → codes-in (record-of c) ≡ c
-written c = λ i. record {
-  mode = c .mode;
-  constellation = c .constellation;
-  rate = c .rate;
-  guard = c .guard;
-  identifier = identified (c .identifier) i;
-}
+-- a good flag f, and the bytes h and l of the identifier, are what is written for the identifier that is read from them
+part-is : (f h l : ℕ) → l < 256 → (eqb f 1 || (eqb f 0 && (eqb h 0 && eqb l 0))) ≡ true
+    → identifier-part (cond (eqb f 0) None (Some (h * 256 + l))) ≡ f ∷ h ∷ l ∷ []
+part-is f h l small t =
+    elim (or-cases (eqb f 1) _ t) [
+      | inl one ↦
+          let f-is = eqb-true f 1 one in
+          let high : (h * 256 + l) / 256 ≡ h = omega arith in
+          let low : (h * 256 + l) % 256 ≡ l = omega arith in
+          cc
+      | inr none ↦
+          let (off, rest) = and-parts (eqb f 0) _ none in
+          let (high, low) = and-parts (eqb h 0) (eqb l 0) rest in
+          cc (eqb-true f 0 off, eqb-true h 0 high, eqb-true l 0 low)
+    ]
 
-module _ (bs : List ℕ) where
+module _ (bs : List ℕ) (bytes : All (λ b. b < 256) bs) where
+  whole : (headed bs && flagged bs) ≡ true → bs ≡ record-of (codes-in bs)
+  whole t =
+      let (head, flag) = and-parts (headed bs) (flagged bs) t in
+      let (ten, rest) = and-parts (eqb (length bs) 10) _ head in
+      let (high, rest₂) = and-parts (eqb (getD bs 0 0) 0) _ rest in
+      let (low, version) = and-parts (eqb (getD bs 1 0) 8) (eqb (getD bs 2 0) 1) rest₂ in
+      let ten-is : length bs ≡ 10 = eqb-true (length bs) 10 ten in
+      let last : getD bs 9 0 < 256 = all-getD (λ b. b < 256) bs 9 0 (omega arith) bytes in
+      text-from-reads bs
+      (0 ∷ 8 ∷ 1 ∷ getD bs 3 0 ∷ getD bs 4 0 ∷ getD bs 5 0 ∷ getD bs 6 0 ∷ getD bs 7 0 ∷ getD bs 8 0 ∷ getD bs 9 0 ∷ [])
+      ten-is (
+        eqb-true (getD bs 0 0) 0 high,
+        (
+          eqb-true (getD bs 1 0) 8 low,
+          (
+            eqb-true (getD bs 2 0) 1 version,
+            (refl, (refl, (refl, (refl, (refl, (refl, (refl, tt))))))),
+          ),
+        ),
+      )
+      ∙ ap (λ p. 0 ∷ 8 ∷ 1 ∷ getD bs 3 0 ∷ getD bs 4 0 ∷ getD bs 5 0 ∷ getD bs 6 0 ∷ p)
+      (sym (part-is (getD bs 7 0) (getD bs 8 0) (getD bs 9 0) last flag))
+
   read-back : (c : Codes) → bs ≡ record-of c → record-read bs ≡ Ok c
-  read-back c e =
-      let in-is : codes-in bs ≡ c = ap codes-in e ∙ written c in
-      let same = sameBytes-decides bs (record-of (codes-in bs)) .1 (e ∙ ap record-of (sym in-is)) in
-      cond-true _ _ _ same ∙ ap Ok in-is
+  read-back c e = ap record-read e ∙ written (c .mode) (c .constellation) (c .rate) (c .guard) (c .identifier)
 
   read-is : (c : Codes) → record-read bs ≡ Ok c → bs ≡ record-of c
   read-is c e =
-      elim (cases-bool (sameBytes bs (record-of (codes-in bs)))) [
+      elim (cases-bool (headed bs && flagged bs)) [
         | inl t ↦
             let accepts : Ok (codes-in bs) ≡ Ok c = sym (cond-true _ _ _ t) ∙ e in
             let in-is : codes-in bs ≡ c = cc in
-            sameBytes-decides bs (record-of (codes-in bs)) .0 t ∙ ap record-of in-is
+            whole t ∙ ap record-of in-is
         | inr f ↦
             let refuses : Err RecordMalformed ≡ Ok c = sym (cond-false _ _ _ f) ∙ e in
             let z : _≡_ {A = ℕ} 0 1 = cc in absurd (omega arith)
@@ -58,8 +86,8 @@ module _ (bs : List ℕ) where
 
   refused : ((c : Codes) → bs ≡ record-of c → ⊥) → record-read bs ≡ Err RecordMalformed
   refused h =
-      elim (cases-bool (sameBytes bs (record-of (codes-in bs)))) [
-        | inl t ↦ absurd (h (codes-in bs) (sameBytes-decides bs (record-of (codes-in bs)) .0 t))
+      elim (cases-bool (headed bs && flagged bs)) [
+        | inl t ↦ absurd (h (codes-in bs) (whole t))
         | inr f ↦ cond-false _ _ _ f
       ]
 
@@ -73,42 +101,7 @@ module _ (bs : List ℕ) where
 
 pub records-stand : Records-stand
 records-stand = record {
-  codes-back = λ bs c. (read-is bs c, read-back bs c);
-  settings-back = λ bs s. (settings-is bs s, settings-back bs s);
-  malformed = λ bs h. ap (λ r. and-then r settings-read) (refused bs h);
+  codes-back = λ bs c bytes. (read-is bs bytes c, read-back bs bytes c);
+  settings-back = λ bs s bytes. (settings-is bs bytes s, settings-back bs bytes s);
+  malformed = λ bs bytes h. ap (λ r. and-then r settings-read) (refused bs bytes h);
 }
-
--- what the parser tests
-pub record Shaped (bs : List ℕ) : Type 0 where
-  pub ten : length bs ≡ 10
-  pub high : getD bs 0 0 ≡ 0
-  pub low : getD bs 1 0 ≡ 8
-  pub version : getD bs 2 0 ≡ 1
-  pub flag : (getD bs 7 0 ≡ 1) ⊎ ((getD bs 7 0 ≡ 0) × (getD bs 8 0 * 256 + getD bs 9 0 ≡ 0))
-
-shaped : (m k r g : ℕ) (o : Option ℕ) → Shaped (0 ∷ 8 ∷ 1 ∷ m ∷ k ∷ r ∷ g ∷ identifier-part o)
-shaped m k r g None = record { ten = refl; high = refl; low = refl; version = refl; flag = inr (refl, refl) }
-shaped m k r g (Some n) = record { ten = refl; high = refl; low = refl; version = refl; flag = inl refl }
-
-pub misshapen : (bs : List ℕ) → (Shaped bs → ⊥) → Err RecordMalformed ≡ record-read bs
-misshapen bs h =
-    sym (refused bs (λ c e. h (subst Shaped (sym e) (shaped (c .mode) (c .constellation) (c .rate) (c .guard) (c .identifier)))))
-
-pub spelled : (bs : List ℕ) (c : Codes) → length bs ≡ 10 → getD bs 0 0 ≡ 0 → getD bs 1 0 ≡ 8 → getD bs 2 0 ≡ 1
-    → getD bs 3 0 ≡ c .mode → getD bs 4 0 ≡ c .constellation → getD bs 5 0 ≡ c .rate → getD bs 6 0 ≡ c .guard
-    → identifier-part (c .identifier) ≡ getD bs 7 0 ∷ getD bs 8 0 ∷ getD bs 9 0 ∷ []
-    → Ok c ≡ record-read bs
-spelled bs c ten high low version m k r g part =
-    let all : bs ≡ 0 ∷ 8 ∷ 1 ∷ c .mode ∷ c .constellation ∷ c .rate ∷ c .guard ∷ getD bs 7 0 ∷ getD bs 8 0 ∷ getD bs 9 0 ∷ [] =
-    text-from-reads bs _ ten (high, (low, (version, (m, (k, (r, (g, (refl, (refl, (refl, tt)))))))))) in
-    sym (read-back bs c (cc))
-
--- the record of codes, from the parts that the writer puts together
-pub joined : (c : Codes) (part : List ℕ) → part ≡ identifier-part (c .identifier)
-    → 0 ∷ 8 ∷ 1 ∷ c .mode ∷ c .constellation ∷ c .rate ∷ c .guard ∷ getD part 0 0 ∷ getD part 1 0 ∷ getD part 2 0 ∷ [] ≡ record-of c
-joined c part e =
-    ap (λ p. 0 ∷ 8 ∷ 1 ∷ c .mode ∷ c .constellation ∷ c .rate ∷ c .guard ∷ p) (ap (λ p. getD p 0 0 ∷ getD p 1 0 ∷ getD p 2 0 ∷ []) e ∙ three (c .identifier))
-  where
-    three : (o : Option ℕ) → getD (identifier-part o) 0 0 ∷ getD (identifier-part o) 1 0 ∷ getD (identifier-part o) 2 0 ∷ [] ≡ identifier-part o
-    three None = refl
-    three (Some n) = refl

@@ -1,20 +1,13 @@
--- The tables of codes: each value stands at its code, and past the end is the refusal.
-use Prim.Native.Nat.{ℕ, zero, suc, _+_, _≤_}
-use lib.ListN.{length}
+-- The tables of codes: a value stands at its code, and where none stands is the refusal.
+use Prim.Native.Nat.{ℕ, zero, suc, _+_}
 use mathlib.Core.List.{List, [], _∷_}
 use mathlib.Core.Logic.{_⊎_, inl, inr}
 use mathlib.Core.Path.{_≡_, refl, sym, ap}
-use native.Mathlib.Nat.{le-of-suc-le-suc, not-suc-le-zero}
 use native.Mathlib.Omega.{arith}
 use Rattle.std.specs.declared.result.Result.{Result}
 use Rattle.std.specs.declared.result.Result.the-variants.{Ok, Err}
 use Rattle.refusal.specs.declared.Refusal.{Refusal}
 use Rattle.settings.specs.Coded.{value-at, Coded}
-
-pub past : {X : Type 0} (xs : List X) (r : Refusal) (n : ℕ) → length xs ≤ n → value-at xs r n ≡ Err r
-past [] r n h = refl
-past (x ∷ xs) r zero h = absurd (not-suc-le-zero h)
-past (x ∷ xs) r (suc n) h = past xs r n (le-of-suc-le-suc h)
 
 -- the values from i on stand in the order of their codes
 abbrev pub In-order : {X : Type 0} → (X → ℕ) → ℕ → List X → Type 0

@@ -17,8 +17,3 @@ pub record Coded {X : Type 0} (code : X → ℕ) (read : ℕ → Result X Refusa
   pub back : (x : X) → read (code x) ≡ Ok x
   pub only : (n : ℕ) (x : X) → read n ≡ Ok x → code x ≡ n
   pub none : (n : ℕ) → ((x : X) → code x ≡ n → ⊥) → read n ≡ Err refusal
-
--- an accepted value goes on, and a refusal stays
-abbrev pub and-then : {X Y : Type 0} → Result X Refusal → (X → Result Y Refusal) → Result Y Refusal
-and-then (Ok x) f = f x
-and-then (Err r) f = Err r

@@ -1,16 +1,21 @@
 -- Settings and their codes.
 use mathlib.Core.Path.{_≡_}
 use Rattle.std.specs.declared.result.Result.{Result}
-use Rattle.std.specs.declared.result.Result.the-variants.{Ok}
+use Rattle.std.specs.declared.result.Result.the-variants.{Ok, Err}
 use Rattle.refusal.specs.declared.Refusal.{Refusal}
 use Rattle.refusal.specs.declared.Refusal.the-variants.{UnknownMode, UnknownConstellation, UnknownRate, UnknownGuard}
 use Rattle.settings.specs.declared.Settings.{Settings}
 use Rattle.settings.specs.declared.codes.Codes.{Codes}
-use Rattle.settings.specs.Coded.{Coded, and-then}
+use Rattle.settings.specs.Coded.{Coded}
 use Rattle.settings.specs.Mode.{mode-read, mode-code}
 use Rattle.settings.specs.Constellation.{constellation-read, constellation-code}
 use Rattle.settings.specs.Rate.{rate-read, rate-code}
 use Rattle.settings.specs.Guard.{guard-read, guard-code}
+
+-- an accepted value goes on, and a refusal stays
+abbrev pub and-then : {X Y : Type 0} → Result X Refusal → (X → Result Y Refusal) → Result Y Refusal
+and-then (Ok x) f = f x
+and-then (Err r) f = Err r
 
 abbrev pub settings-codes : Settings → Codes
 settings-codes s = record {

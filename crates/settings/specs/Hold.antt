@@ -38,7 +38,7 @@ abbrev pub symbol-interleaver-hold : Mode → ℕ → ℕ
 symbol-interleaver-hold n = capped (λ m. m + 2 * symbol-cells n - 2)
 
 -- an upper stage's hold is of the lower one's
-unfoldable pub standard-hold : Settings → ℕ → ℕ
+abbrev pub standard-hold : Settings → ℕ → ℕ
 standard-hold s m =
     dispersal-hold (outer-coder-hold (outer-interleaver-hold (serializer-hold (inner-coder-hold
     (bit-interleaver-hold (s .constellation) (symbol-interleaver-hold (s .mode) m))))))

@@ -1,8 +1,8 @@
 -- The settings record: what is written for codes, and which codes a list of bytes is read as.
-use Prim.Native.Nat.{ℕ, _+_, _*_, _/_, _%_}
+use Prim.Native.Nat.{ℕ, _+_, _*_, _/_, _%_, _<_}
 use lib.Dec.{eqb}
-use lib.ListN.{getD}
-use mathlib.Core.Bool.{cond}
+use lib.ListN.{length, getD}
+use mathlib.Core.Bool.{Bool, cond, _&&_, _||_}
 use mathlib.Core.List.{List, [], _∷_}
 use mathlib.Core.Logic.{_↔_}
 use mathlib.Core.Path.{_≡_}
@@ -10,13 +10,12 @@ use Rattle.std.specs.declared.option.Option.{Option}
 use Rattle.std.specs.declared.option.Option.the-variants.{Some, None}
 use Rattle.std.specs.declared.result.Result.{Result}
 use Rattle.std.specs.declared.result.Result.the-variants.{Ok, Err}
-use Rattle.std.specs.shelf.Text.{sameBytes}
+use Rattle.std.specs.shelf.Lists.{All}
 use Rattle.refusal.specs.declared.Refusal.{Refusal}
 use Rattle.refusal.specs.declared.Refusal.the-variants.{RecordMalformed}
 use Rattle.settings.specs.declared.Settings.{Settings}
 use Rattle.settings.specs.declared.codes.Codes.{Codes}
-use Rattle.settings.specs.Coded.{and-then}
-use Rattle.settings.specs.Codes.{settings-codes, settings-read}
+use Rattle.settings.specs.Codes.{and-then, settings-codes, settings-read}
 
 -- the flag, and the identifier's two bytes, the high one first
 abbrev pub identifier-part : Option ℕ → List ℕ
@@ -34,18 +33,25 @@ codes-in bs = record {
   constellation = getD bs 4 0;
   rate = getD bs 5 0;
   guard = getD bs 6 0;
-  identifier = cond (eqb (getD bs 7 0) 0) None (Some (256 * getD bs 8 0 + getD bs 9 0));
+  identifier = cond (eqb (getD bs 7 0) 0) None (Some (getD bs 8 0 * 256 + getD bs 9 0));
 }
 
--- Bytes are a record if they are what is written for the codes in them.
+-- ten bytes, with the length and the version in front
+abbrev pub headed : List ℕ → Bool
+headed bs = eqb (length bs) 10 && (eqb (getD bs 0 0) 0 && (eqb (getD bs 1 0) 8 && eqb (getD bs 2 0) 1))
+
+-- a flag of 1, or a flag of 0 and no identifier
+abbrev pub flagged : List ℕ → Bool
+flagged bs = eqb (getD bs 7 0) 1 || (eqb (getD bs 7 0) 0 && (eqb (getD bs 8 0) 0 && eqb (getD bs 9 0) 0))
+
 abbrev pub record-read : List ℕ → Result Codes Refusal
-record-read bs = cond (sameBytes bs (record-of (codes-in bs))) (Ok (codes-in bs)) (Err RecordMalformed)
+record-read bs = cond (headed bs && flagged bs) (Ok (codes-in bs)) (Err RecordMalformed)
 
 abbrev pub settings-from : List ℕ → Result Settings Refusal
 settings-from bs = and-then (record-read bs) settings-read
 
 -- Codes and settings are read from exactly the bytes that are written for them, so a record has one meaning; all else is malformed.
 pub record Records-stand : Type 0 where
-  pub codes-back : (bs : List ℕ) (c : Codes) → (record-read bs ≡ Ok c) ↔ (bs ≡ record-of c)
-  pub settings-back : (bs : List ℕ) (s : Settings) → (settings-from bs ≡ Ok s) ↔ (bs ≡ record-of (settings-codes s))
-  pub malformed : (bs : List ℕ) → ((c : Codes) → bs ≡ record-of c → ⊥) → settings-from bs ≡ Err RecordMalformed
+  pub codes-back : (bs : List ℕ) (c : Codes) → All (λ b. b < 256) bs → (record-read bs ≡ Ok c) ↔ (bs ≡ record-of c)
+  pub settings-back : (bs : List ℕ) (s : Settings) → All (λ b. b < 256) bs → (settings-from bs ≡ Ok s) ↔ (bs ≡ record-of (settings-codes s))
+  pub malformed : (bs : List ℕ) → All (λ b. b < 256) bs → ((c : Codes) → bs ≡ record-of c → ⊥) → settings-from bs ≡ Err RecordMalformed

@@ -5,7 +5,7 @@ use Rattle.std.specs.declared.result.Result.{Result}
 use Rattle.std.specs.declared.result.Result.the-variants.{Ok}
 use Rattle.refusal.specs.declared.Refusal.{Refusal}
 use Rattle.settings.specs.declared.sheet.Sheet.{Sheet}
-use Rattle.settings.specs.Coded.{and-then}
+use Rattle.settings.specs.Codes.{and-then}
 use Rattle.settings.specs.Hold.{standard-hold}
 use Rattle.settings.specs.Record.{settings-from}
 use Rattle.settings.specs.SuperFrame.{super-frame-packets, super-frame-cells}

@@ -17,6 +17,11 @@ pub struct Codes {
     pub identifier: Option<u16>,
 }
 
+// The law that `codes` states; it runs nothing.
+fn codes_stand()
+    ensures { λ _. ⌜ Codes-stand ⌝ }
+{}
+
 impl Settings {
     // The first unknown code refuses: mode, constellation, rate, then guard.
     pub fn read(codes: &Codes) -> Result<Settings, Refusal>
@@ -39,6 +44,7 @@ impl Settings {
         ensures value { λ r. ⌜ r ≡ settings-codes (now (self .entry)) ⌝ }
         ensures law { λ _. ⌜ Codes-stand ⌝ }
     {
+        codes_stand();
         Codes {
             mode: self.mode.code(),
             constellation: self.constellation.code(),

@@ -8,6 +8,8 @@ pub mod rate;
 pub mod record;
 pub mod sheet;
 pub mod super_frame;
+#[cfg(test)]
+mod tests;
 
 pub use codes::Codes;
 pub use constellation::Constellation;

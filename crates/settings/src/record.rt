@@ -1,5 +1,7 @@
 // The settings record, ten bytes: length 8 in two bytes, version 1, mode, constellation, rate, guard, identifier flag, identifier in two bytes.
 // Numbers of two bytes have the high byte first. Without an identifier, flag and identifier are 0.
+ghost use lib.ListN.{getD};
+ghost use mathlib.Core.List.{[], _∷_};
 ghost use mathlib.Core.Path.{_≡_};
 ghost use Rattle.settings.specs.Codes.{settings-codes};
 ghost use Rattle.settings.specs.Record.{identifier-part, record-of, record-read, settings-from, Records-stand};
@@ -31,7 +33,8 @@ impl Codes {
 
 // The flag, and the identifier's two bytes.
 fn identifier_part(identifier: Option<u16>) -> [u8; 3]
-    ensures { λ r. ⌜ r ≡ identifier-part identifier ⌝ }
+    ensures value { λ r. ⌜ r ≡ identifier-part identifier ⌝ }
+    ensures places { λ r. ⌜ r ≡ getD r 0 0 ∷ getD r 1 0 ∷ getD r 2 0 ∷ [] ⌝ }
 {
     match identifier {
         None => [0, 0, 0],
@@ -41,6 +44,11 @@ fn identifier_part(identifier: Option<u16>) -> [u8; 3]
         }
     }
 }
+
+// The law that `to_record` states; it runs nothing.
+fn records_stand()
+    ensures { λ _. ⌜ Records-stand ⌝ }
+{}
 
 impl Settings {
     pub fn from_record(bytes: &[u8]) -> Result<Settings, Refusal>
@@ -54,6 +62,7 @@ impl Settings {
         ensures value { λ r. ⌜ r ≡ record-of (settings-codes (now (self .entry))) ⌝ }
         ensures law { λ _. ⌜ Records-stand ⌝ }
     {
+        records_stand();
         let codes = self.codes();
         let [flag, high, low] = identifier_part(codes.identifier);
         [

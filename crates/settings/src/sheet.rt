@@ -4,7 +4,7 @@ ghost use Rattle.settings.specs.Sheet.{sheet-of};
 use super::Settings;
 use refusal::Refusal;
 
-#[derive(Clone, Copy, PartialEq, Eq, Debug)]
+#[derive(Clone, Copy)]
 pub struct Sheet {
     // In a super-frame.
     pub packets: u32,
