@@ -9,3 +9,7 @@ pub mod Faultless
 pub mod Machine
 pub mod Blocks
 pub mod Unknown
+pub mod HandingUp
+pub mod PilingDown
+pub mod PilingUp
+pub mod PilingRule

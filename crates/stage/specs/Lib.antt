@@ -3,3 +3,4 @@ pub mod Rule
 pub mod Machine
 pub mod Blocks
 pub mod Known
+pub mod Piled

@@ -6,6 +6,7 @@
 ghost use lib.Dec.{ltb};
 ghost use mathlib.Core.Path.{_≡_};
 ghost use Rattle.stage.specs.Model.{Model, Sending, Receiving, some, some-heard, new-sending, new-receiving, answer, offered, heard, first, sent, first-heard, collected, Below-some, Below-ok};
+ghost use Rattle.stage.specs.Piled.{Piles-keep-the-rule};
 ghost use Rattle.stage.specs.Rule.{Rule, Sends, Hears};
 use refusal::Refusal;
 
@@ -91,3 +92,8 @@ pub trait Stage {
         ensures below { λ r. ⌜ Below-ok (model (now (self .entry)) .taken) r ⌝ }
         ensures side { λ _. ⌜ receiving (now (self .exit)) ≡ collected (receiving (now (self .entry))) ⌝ };
 }
+
+// Any stage above any other keeps the rule, with the upper hold of the lower hold.
+pub fn piles_keep_the_rule()
+    ensures { λ _. ⌜ Piles-keep-the-rule ⌝ }
+{}
