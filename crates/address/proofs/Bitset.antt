@@ -1,10 +1,10 @@
 -- A natural number as a set of numbers: k is in s where bit k of s is set.
-use mathlib.Core.Path.{_≡_, refl, sym, ap, ap₂, _∙_, subst}
-use mathlib.Core.Logic.{_≢_, _⊎_, inl, inr}
-use Prim.Native.Nat.{ℕ, zero, suc, _+_, _-_, _*_, _/_, _%_, _^_, _≤_, _<_}
-use native.Mathlib.Nat.{zero-div, div-eq-of-lt, mul-mod-left, pow-suc, div-add-mod', mod-lt, mul-comm, one-mul}
+use mathlib.Core.Path.{_≡_, sym, ap, _∙_, subst}
+use mathlib.Core.Logic.{_≢_, inl, inr}
+use Prim.Native.Nat.{ℕ, suc, _+_, _-_, _*_, _/_, _%_, _^_, _<_}
+use native.Mathlib.Nat.{zero-div, div-eq-of-lt, mul-mod-left, pow-suc, one-mul}
 use native.Mathlib.Omega.{arith}
-use lib.Bits.{bitOr, bitAnd, or-shr, or-mod, or-add-and, and-le-l, and-le-r, or-zero-r}
+use lib.Bits.{bitOr, or-shr, or-mod, or-add-and, and-le-l, and-le-r}
 use lib.Pow.{pow-pos, pow-add, pow-lt, shl-shr, ones-split, ones-lt, high}
 use Rattle.address.specs.Address.{bit}
 use Rattle.std.proofs.shelf.Tests.{cases-order}

@@ -1,14 +1,12 @@
 -- The loop that writes the addresses: the register's word i gives one more, or none.
 use mathlib.Core.Path.{_≡_, sym, ap, _∙_, subst}
 use mathlib.Core.List.{List, [], _∷_, _++_, append-assoc}
-use Prim.Native.Nat.{ℕ, suc, _+_, _-_, _^_, _≤_, _<_}
+use Prim.Native.Nat.{ℕ, suc, _+_, _-_, _≤_, _<_}
 use native.Mathlib.Omega.{arith}
 use lib.Dec.{ltb}
 use lib.ListN.{length, take, set, length-append, length-take}
-use Rattle.settings.specs.declared.mode.Mode.{Mode}
-use Rattle.address.specs.Address.{Row, row-of, address, following, kept, addresses-from, addresses-of}
-use Rattle.address.proofs.Address.{addresses-permute}
-use Rattle.std.proofs.shelf.Lists.{append-nil, take-all, take-more-set}
+use Rattle.address.specs.Address.{Row, address, following, kept, addresses-from}
+use Rattle.std.proofs.shelf.Lists.{append-nil, take-more-set}
 use Rattle.std.proofs.shelf.Tests.{lt-ltb, le-ltb}
 
 -- a list written from the front, x next: there is room, and x has its place

@@ -27,15 +27,24 @@ fn wires(mode: Mode) -> &'static [u8]
     }
 }
 
-// The bit that R′ takes in at its top.
+// The bits of R′ whose sum modulo 2 comes in at its top.
+fn taps(mode: Mode) -> &'static [u8]
+    ensures { λ r. ⌜ now r ≡ row-of mode .taps ⌝ }
+{
+    match mode {
+        Mode::TwoK => &[0, 3],
+        Mode::EightK => &[0, 1, 4, 6],
+    }
+}
+
 fn feedback(mode: Mode, register: u16) -> u16
     ensures { λ r. ⌜ r ≡ fed-back (row-of mode .taps) register ⌝ }
 {
-    let taps = match mode {
-        Mode::TwoK => register ^ (register >> 3),
-        Mode::EightK => register ^ (register >> 1) ^ (register >> 4) ^ (register >> 6),
-    };
-    taps & 1
+    let mut sum = 0;
+    for tap in taps(mode) {
+        sum ^= register >> *tap;
+    }
+    sum & 1
 }
 
 // R′ one step on.

@@ -1,16 +1,15 @@
 -- The chart tells where the words go; marks that were permuted and then told their places are the chart.
 use mathlib.Core.Bool.{Bool, true, false, cond, _||_}
-use mathlib.Core.List.{List, _++_, map}
+use mathlib.Core.List.{List, _++_}
 use mathlib.Core.Logic.{inl, inr}
 use mathlib.Core.Path.{_≡_, refl, sym, ap, ap₂, subst, _∙_}
 use Prim.Native.Nat.{ℕ, _-_, _<_, _≤_}
 use native.Mathlib.Omega.{arith}
 use lib.Dec.{ltb}
-use lib.ListN.{length, getD, drop, length-append, length-drop}
+use lib.ListN.{length, drop, length-append, length-drop}
 use Rattle.std.proofs.shelf.Counted.{length-map-counting, getD-map-counting}
 use Rattle.std.proofs.shelf.Lists.{same-lists, getD-default, getD-append-left, getD-append-right}
 use Rattle.std.proofs.shelf.Tests.{cases-lt, cond-true, cond-false, le-ltb, ltb-false}
-use Rattle.std.specs.Iters.{counting}
 use Rattle.std.specs.declared.option.Option.{Option}
 use Rattle.std.specs.declared.option.Option.the-variants.{Some, None}
 use Rattle.std.specs.declared.result.Result.the-variants.{Ok}
@@ -106,38 +105,45 @@ said-yes : (b : Bool) (x : ℕ) → _≡_ {A = Option ℕ} (Some x) (cond b (Som
 said-yes true x e = refl
 said-yes false x e = absurd (let z : _≡_ {A = ℕ} 0 1 = cc in omega arith)
 
--- the words of every symbol are there, so that only the buffer can be short
-short-is : (m : Mode) (old : List Mark) → short (addresses-of m) (unmoved 6048) old ≡ ltb (length old) (symbol-cells m)
-short-is m old =
-    ap₂ _||_ (le-ltb (length (unmoved 6048)) (length (addresses-of m)) (omega (arith, length-unmoved 6048, words-fit m, addresses-permute m .size)))
-    (ap (ltb (length old)) (addresses-permute m .size))
+-- marks ws, which are the unmoved ones, were permuted by the addresses of a mode b, which is m
+module _ (m b : Mode) (mode : b ≡ m) (p : Parity) (ws old moved : List Mark) (whole : ws ≡ unmoved 6048)
+    (after : moved ≡ permuting.buffer-after p (addresses-of b) (mark 0 0) ws old) where
+  size : length (addresses-of b) ≡ symbol-cells m
+  size = ap (λ a. length (addresses-of a)) mode ∙ addresses-permute m .size
 
-module _ (m : Mode) (p : Parity) (old moved : List Mark) (after : moved ≡ permuting.buffer-after p (addresses-of m) (mark 0 0) (unmoved 6048) old) where
-  -- the permuting rule refuses what the chart call refuses
-  pub refusal-is : refusal-of (addresses-of m) (unmoved 6048) old ≡ checked (Ok m) (Ok p) (length old)
-  refusal-is = ap (λ b. cond b (Some 16) None) (short-is m old)
+  -- there are words enough for every symbol, so that only the buffer can be short
+  short-is : short (addresses-of b) ws old ≡ ltb (length old) (symbol-cells m)
+  short-is =
+      ap₂ _||_ (le-ltb (length ws) (length (addresses-of b)) (omega (arith, size, ap length whole, length-unmoved 6048, words-fit m))) (ap (ltb (length old)) size)
 
-  pub refused : (x : ℕ) → Some x ≡ refusal-of (addresses-of m) (unmoved 6048) old → moved ≡ buffer-after (Ok m) (Ok p) old
+  refusal-is : refusal-of (addresses-of b) ws old ≡ checked (Ok m) (Ok p) (length old)
+  refusal-is = ap (λ t. cond t (Some 16) None) short-is
+
+  pub answered : (o : Option ℕ) → o ≡ refusal-of (addresses-of b) ws old → o ≡ checked (Ok m) (Ok p) (length old)
+  answered o e = e ∙ refusal-is
+
+  pub refused : (x : ℕ) → Some x ≡ refusal-of (addresses-of b) ws old → moved ≡ buffer-after (Ok m) (Ok p) old
   refused x e =
-      let b : ltb (length old) (symbol-cells m) ≡ true = said-yes (ltb (length old) (symbol-cells m)) x (e ∙ refusal-is) in
-      after ∙ cond-true (short (addresses-of m) (unmoved 6048) old) old (permuted p (addresses-of m) (mark 0 0) (unmoved 6048) ++ drop (length (addresses-of m)) old) (short-is m old ∙ b)
-      ∙ sym (cond-true (ltb (length old) (symbol-cells m)) old (chart-of m p ++ drop (symbol-cells m) old) b)
+      let t : ltb (length old) (symbol-cells m) ≡ true = said-yes (ltb (length old) (symbol-cells m)) x (e ∙ refusal-is) in
+      after ∙ cond-true (short (addresses-of b) ws old) old (permuted p (addresses-of b) (mark 0 0) ws ++ drop (length (addresses-of b)) old) (short-is ∙ t)
+      ∙ sym (cond-true (ltb (length old) (symbol-cells m)) old (chart-of m p ++ drop (symbol-cells m) old) t)
 
-  module _ (e : None ≡ refusal-of (addresses-of m) (unmoved 6048) old) where
+  module _ (e : None ≡ refusal-of (addresses-of b) ws old) where
     long : ltb (length old) (symbol-cells m) ≡ false
     long = said-no (ltb (length old) (symbol-cells m)) (e ∙ refusal-is)
 
     pub room : symbol-cells m ≤ length old
     room = ltb-false (length old) (symbol-cells m) long
 
+    permuted-is : moved ≡ permuted p (addresses-of m) (mark 0 0) (unmoved 6048) ++ drop (symbol-cells m) old
+    permuted-is =
+        after ∙ cond-false (short (addresses-of b) ws old) old (permuted p (addresses-of b) (mark 0 0) ws ++ drop (length (addresses-of b)) old) (short-is ∙ long)
+        ∙ ap₂ _++_ (ap₂ (λ a us. permuted p (addresses-of a) (mark 0 0) us) mode whole) (ap (λ (n : ℕ). drop n old) size)
+
     pub accepted : (new : List Mark) → length new ≡ length moved
         → ((k : ℕ) → k < symbol-cells m → mark-at new k ≡ mark (mark-at moved k .before) k)
         → ((k : ℕ) → symbol-cells m ≤ k → mark-at new k ≡ mark-at moved k)
         → new ≡ buffer-after (Ok m) (Ok p) old
     accepted new same front rest =
-        let ps = permuted p (addresses-of m) (mark 0 0) (unmoved 6048) in
-        let is : moved ≡ ps ++ drop (symbol-cells m) old =
-        after ∙ cond-false (short (addresses-of m) (unmoved 6048) old) old (ps ++ drop (length (addresses-of m)) old) (short-is m old ∙ long)
-        ∙ ap (λ (n : ℕ). ps ++ drop n old) (addresses-permute m .size) in
-        landed-is m p old moved new room is same front rest
+        landed-is m p old moved new room permuted-is same front rest
         ∙ sym (cond-false (ltb (length old) (symbol-cells m)) old (chart-of m p ++ drop (symbol-cells m) old) long)

@@ -1,6 +1,6 @@
 // The chart of the symbol interleaver (EN 300 744, clause 4.3.4.2): where each word of a symbol goes.
 // In: codes of the mode and the parity, and a buffer. Out: its first N marks, by the place after the interleaver.
-ghost use lib.ListN.{length, getD};
+ghost use lib.ListN.{length};
 ghost use mathlib.Core.Path.{_≡_};
 ghost use Prim.Native.Nat.{ℕ, _<_, _≤_};
 ghost use Rattle.refusal.specs.Numbers.{refused-by};
@@ -9,7 +9,6 @@ ghost use Rattle.settings.specs.Mode.{mode-read};
 ghost use Rattle.std.specs.declared.result.Result.the-variants.{Ok};
 ghost use Rattle.permute.specs.Parity.{parity-read};
 use address::Addresses;
-use mark::Mark;
 use permute::Parity;
 use permute::permute;
 use refusal::Refusal;
@@ -17,6 +16,10 @@ use settings::Mode;
 
 pub mod laws;
 pub mod mark;
+#[cfg(test)]
+mod tests;
+
+pub use mark::Mark;
 
 // The marks of words that stay where they are, for the longest symbol.
 fn in_place() -> [Mark; 6048]

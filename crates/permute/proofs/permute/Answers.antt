@@ -1,4 +1,7 @@
 use mathlib.Core.Path.{sym, ap, ap₂, _∙_}
+use Prim.Native.Nat.{_≤_}
+use native.Mathlib.Omega.{arith}
+use lib.ListN.{length}
 use Rattle.address.proofs.Address.{table-permutes}
 use Rattle.permute.specs.Permuted.{refusal-of, buffer-after}
 use Rattle.permute.specs.declared.parity.Parity.the-variants.{Even, Odd}
@@ -6,10 +9,10 @@ use Rattle.permute.proofs.Permuted.{answer, buffer}
 use Rattle.permute.proofs.permute.Needs as need
 
 pub scatter-requires : need.scatter-requires
-scatter-requires g c κs = record { permutes = table-permutes _ _ (c .list-table .ensures); from = c .if-from-table .left; to = c .if-to-table .left }
+scatter-requires g c κs = record { permutes = table-permutes _ _ (c .list-table .ensures); from = omega arith; to = omega arith }
 
 pub gather-requires : need.gather-requires
-gather-requires g c κs = record { permutes = table-permutes _ _ (c .list-table .ensures); from = c .if-from-table .left; to = c .if-to-table .left }
+gather-requires g c κs = record { permutes = table-permutes _ _ (c .list-table .ensures); from = omega arith; to = omega arith }
 
 pub returns-in-Even : need.returns-in-Even
 returns-in-Even g c =
@@ -17,8 +20,8 @@ returns-in-Even g c =
     let old = c .args .to .now in
     let table = c .list-table .result .now in
     let e = c .list-table .ensures in
-    let from = c .if-from-table .left in
-    let to = c .if-to-table .left in
+    let from : length table ≤ length xs = omega arith in
+    let to : length table ≤ length old = omega arith in
     record {
       answer = answer table xs old from to ∙ ap (λ hs. refusal-of hs xs old) e;
       buffer = λ d.
@@ -32,8 +35,8 @@ returns-in-Odd g c =
     let old = c .args .to .now in
     let table = c .list-table .result .now in
     let e = c .list-table .ensures in
-    let from = c .if-from-table .left in
-    let to = c .if-to-table .left in
+    let from : length table ≤ length xs = omega arith in
+    let to : length table ≤ length old = omega arith in
     record {
       answer = answer table xs old from to ∙ ap (λ hs. refusal-of hs xs old) e;
       buffer = λ d.

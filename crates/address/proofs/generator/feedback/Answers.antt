@@ -1,14 +1,16 @@
-use mathlib.Core.Path.{_∙_}
-use Prim.Native.Nat.{_/_}
-use native.Mathlib.Omega.{arith}
-use Rattle.address.proofs.Parity.{lowest-2, lowest-4}
+use mathlib.Core.Path.{ap, _∙_}
+use Rattle.address.specs.Address.{fed-back}
+use Rattle.address.proofs.Parity.{fed-back-all, fed-back-bit, fed-back-more}
 use Rattle.address.proofs.generator.feedback.Needs as need
-use Rattle.address.proofs.generator.feedback.Needs.{in-TwoK, in-EightK}
+
+pub loop-tap-holds : need.loop-tap-holds
+loop-tap-holds c = fed-back-bit (c .taps-tap-items .result .now) (c .args .register)
+
+pub loop-tap-again : need.loop-tap-again
+loop-tap-again c =
+    fed-back-more (c .taps-tap-items .result .now) (c .loop-tap .tap-index) (c .args .register) (c .loop-tap .sum) (c .loop-tap-test .taken) (c .loop-tap .inv)
 
 pub returns : need.returns
 returns c =
-    let r = c .args .register in
-    elim (c .match-mode .came) [
-      | in-TwoK w ↦ simp (w .taps-is, w .in-TwoK .is) (lowest-2 r (r / 8) ∙ omega arith)
-      | in-EightK w ↦ simp (w .taps-is, w .in-EightK .is) (lowest-4 r (r / 2) (r / 16) (r / 64) ∙ omega arith)
-    ]
+    fed-back-all (c .taps-tap-items .result .now) (c .loop-tap .tap-index) (c .args .register) (c .loop-tap .sum) (c .loop-tap-test .left) (c .loop-tap .inv)
+    ∙ ap (λ ts. fed-back ts (c .args .register)) (c .taps-tap-items .ensures)
