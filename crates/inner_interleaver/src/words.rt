@@ -28,62 +28,42 @@ pub struct Lane {
     pub offset: usize,
 }
 
-const QPSK: [Lane; 2] = [
-    Lane {
-        stream: 0,
-        offset: 0,
-    },
-    Lane {
-        stream: 1,
-        offset: 63,
-    },
-];
+// The interleavers of the streams, as the clause labels them.
+const I0: Lane = Lane {
+    stream: 0,
+    offset: 0,
+};
 
-const QAM16: [Lane; 4] = [
-    Lane {
-        stream: 0,
-        offset: 0,
-    },
-    Lane {
-        stream: 2,
-        offset: 105,
-    },
-    Lane {
-        stream: 1,
-        offset: 63,
-    },
-    Lane {
-        stream: 3,
-        offset: 42,
-    },
-];
+const I1: Lane = Lane {
+    stream: 1,
+    offset: 63,
+};
 
-const QAM64: [Lane; 6] = [
-    Lane {
-        stream: 0,
-        offset: 0,
-    },
-    Lane {
-        stream: 2,
-        offset: 105,
-    },
-    Lane {
-        stream: 4,
-        offset: 21,
-    },
-    Lane {
-        stream: 1,
-        offset: 63,
-    },
-    Lane {
-        stream: 3,
-        offset: 42,
-    },
-    Lane {
-        stream: 5,
-        offset: 84,
-    },
-];
+const I2: Lane = Lane {
+    stream: 2,
+    offset: 105,
+};
+
+const I3: Lane = Lane {
+    stream: 3,
+    offset: 42,
+};
+
+const I4: Lane = Lane {
+    stream: 4,
+    offset: 21,
+};
+
+const I5: Lane = Lane {
+    stream: 5,
+    offset: 84,
+};
+
+const QPSK: [Lane; 2] = [I0, I1];
+
+const QAM16: [Lane; 4] = [I0, I2, I1, I3];
+
+const QAM64: [Lane; 6] = [I0, I2, I4, I1, I3, I5];
 
 // The stream that takes each of v bits.
 fn lanes(constellation: Constellation) -> &'static [Lane]

@@ -1,32 +1,21 @@
 use Prim.Native.Nat.{_^_}
-use mathlib.Core.Path.{_≡_, refl, sym, ap, subst, _∙_}
-use native.Mathlib.Omega.{arith}
-use Rattle.std.specs.declared.result.Result.the-variants.{Ok}
-use Rattle.address.proofs.Address.{words-fit}
+use mathlib.Core.Path.{refl}
 use Rattle.permute.specs.Parity.{opposite}
 use Rattle.settings.specs.Constellation.{word-bits}
-use Rattle.settings.specs.Mode.{symbol-cells}
-use Rattle.stage.specs.Model.{heard-of, Below-some}
-use Rattle.inner_interleaver.specs.Sides.{next-word, advanced}
-use Rattle.inner_interleaver.specs.SymbolInterleaver.{decode, side-of}
-use Rattle.inner_interleaver.proofs.SymbolSides.{decoded, took-word, next-below}
+use Rattle.inner_interleaver.specs.SymbolInterleaver.{decode}
+use Rattle.inner_interleaver.proofs.SymbolSides.{took-side, next-below, decoded}
 use Rattle.inner_interleaver.proofs.symbol_interleaver.rule.SymbolInterleaverStage.receive_take.Needs as need
 
 pub returns : need.returns
 returns c =
     let s = c .args .self .now in
-    let side = s .back in
     let m = s .addresses .mode in
-    let n = symbol-cells m in
-    let t = 2 ^ word-bits (s .constellation) in
-    let r = took-word m (decode m) opposite (λ p. refl) (decoded m) side (omega (arith, words-fit m, c .take .ensures .roomy .1)) in
-    let word : c .take .result ≡ next-word n side = c .take .ensures .answers ∙ ap (λ k. next-word k side) (c .symbol-n .ensures) in
-    let after : c .take .last .self ≡ advanced n side = c .take .ensures .side ∙ ap (λ k. advanced k side) (c .symbol-n .ensures) in
-    let is = ap (λ o. side-of (decode m) n (opposite (o .parity)) o) after in
+    let n = c .symbol-n .result in
+    let r = took-side m (decode m) opposite (λ p. refl) (decoded m) (s .back) (c .take .ensures .roomy) n (c .symbol-n .ensures) (c .take .result) (c .take .last .self) (c .take .ensures .answers) (c .take .ensures .side) in
     record {
       fixed = refl;
       other = refl;
-      answers = ap Ok word ∙ r .heard-answers;
-      below = subst (Below-some t) (sym word) (next-below n t side (s .«back_moved»));
-      side = ap heard-of is ∙ r .heard-side;
+      answers = r .heard-answers;
+      below = next-below n (2 ^ word-bits (s .constellation)) (s .back) (c .take .result) (c .take .ensures .answers) (s .«back_moved»);
+      side = r .heard-side;
     }
