@@ -1,0 +1,15 @@
+pub mod Fronts
+pub mod Futures
+pub mod Hearing
+pub mod Feeding
+pub mod Waits
+pub mod Offers
+pub mod Holds
+pub mod Faultless
+pub mod Machine
+pub mod Blocks
+pub mod Unknown
+pub mod HandingUp
+pub mod PilingDown
+pub mod PilingUp
+pub mod PilingRule
