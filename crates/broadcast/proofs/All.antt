@@ -6,13 +6,13 @@ use Rattle.tps.specs.Laws.{Blocks-tell-settings}
 use Rattle.stage.specs.Model.{Model}
 use Rattle.stage.specs.Rule.{Rule, Same}
 use Rattle.stage.proofs.PilingRule.{piled-rule}
-use Rattle.broadcast.specs.Line.{Call, Typed}
+use Rattle.broadcast.specs.Line.{Call, Typed, Follows}
 use Rattle.broadcast.specs.Receiver as receiver-calls
 use Rattle.broadcast.specs.Steps.{Outcome, event}
 use Rattle.broadcast.specs.LineSteps as line-steps
 use Rattle.broadcast.specs.ReceiverSteps as receiver-steps
 use Rattle.broadcast.specs.Claims.{Broadcasts-hold, Holds-over, over-pile, Calls-follow}
-use Rattle.broadcast.proofs.Going.{runs, only, continues}
+use Rattle.broadcast.proofs.Going.{succession-none, runs, only, continues}
 use Rattle.broadcast.proofs.LineRuns as line
 use Rattle.broadcast.proofs.ReceiverRuns as receiver
 use Rattle.broadcast.proofs.Broadcasts.{broadcasts-are-the-piles}
@@ -53,10 +53,17 @@ calls-follow M m = record {
   receiver-only = λ es k. only (receiver.answering M m) es k;
 }
 
+-- a new line, and a call on a line
+pub line-begins : (M : Model) (l : line-steps.Line) → l ≡ line-steps.idle → line-steps.Gone-through M [] l
+line-begins M l e = record { in-order = succession-none (Follows M); leads = sym e }
+
 pub line-continues : (M : Model) → Rule M → (l : line-steps.Line) (c : Call) (o : Outcome line-steps.Line) → Typed c → o ≡ line-steps.step M l c
     → line-steps.Continues M l c o
 line-continues M m l c o t e es w =
     subst (λ (x : Outcome line-steps.Line). line-steps.Gone-through M (es ++ (event c x ∷ [])) (x .state)) (sym e) (continues (line.answering M m) es l c t w)
+
+pub receiver-begins : (M : Model) (r : receiver-steps.Receiver) → r ≡ receiver-steps.idle → receiver-steps.Gone-through M [] r
+receiver-begins M r e = record { in-order = succession-none (receiver-calls.Follows M); leads = sym e }
 
 pub receiver-continues : (M : Model) → Rule M → (r : receiver-steps.Receiver) (c : receiver-calls.Call) (o : Outcome receiver-steps.Receiver)
     → o ≡ receiver-steps.step M r c → receiver-steps.Continues M r c o

@@ -45,6 +45,9 @@ module _ {C : Type 0} (Follows : List (Event C) → Event C → Type 0) where
       subst (λ (w : List (Event C)). Follows w x) (append-assoc pre (d ∷ []) before ∙ ap (λ (w : Event C). pre ++ (w ∷ before)) y)
       (follows-push (pre ++ (d ∷ [])) es e (rest-follows pre es d k) g before x later t)
 
+  pub succession-none : Succession-by Follows []
+  succession-none before e later q = absurd (no-front before later e q)
+
   pub succession-push : (es : List (Event C)) (e : Event C) → Succession-by Follows es → Follows es e → Succession-by Follows (es ++ (e ∷ []))
   succession-push es e k f = follows-push [] es e k f
 
@@ -74,7 +77,7 @@ module _ {C S : Type 0} {Follows : List (Event C) → Event C → Type 0} {step 
 
     -- what the machine answers is a succession
     pub runs : (cs : List C) → All Typed cs → Succession-by Follows (run step new cs)
-    runs cs t = run-from [] new cs t (g .starts) (λ before e later q. absurd (no-front before later e q))
+    runs cs t = run-from [] new cs t (g .starts) (succession-none Follows)
 
     only-from : (pre : List (Event C)) (s : S) (es : List (Event C)) → Inv pre s → Goes-on Follows pre es
         → (run step s (calls-of es) ≡ es) × Inv (pre ++ es) (state-after step s (calls-of es))
