@@ -11,7 +11,8 @@ use Rattle.broadcast.specs.Receiver as receiver-calls
 use Rattle.broadcast.specs.Steps.{Outcome, event}
 use Rattle.broadcast.specs.LineSteps as line-steps
 use Rattle.broadcast.specs.ReceiverSteps as receiver-steps
-use Rattle.broadcast.specs.Claims.{Broadcasts-hold, Holds-over, over-pile, Calls-follow}
+use Rattle.broadcast.specs.Claims.{Broadcasts-hold, Holds-over, over-pile}
+use Rattle.broadcast.specs.Exactly.{Steps-go-successions}
 use Rattle.broadcast.proofs.Going.{succession-none, runs, only, continues}
 use Rattle.broadcast.proofs.LineRuns as line
 use Rattle.broadcast.proofs.ReceiverRuns as receiver
@@ -45,8 +46,8 @@ every : {C : Type 0} (cs : List C) → All (λ (c : C). Unit {0}) cs
 every [] = tt
 every (c ∷ cs) = (tt, every cs)
 
-pub calls-follow : Calls-follow
-calls-follow M m = record {
+pub steps-go-successions : Steps-go-successions
+steps-go-successions M m = record {
   line-goes = λ cs t. runs (line.answering M m) cs t;
   line-only = λ es k. only (line.answering M m) es k;
   receiver-goes = λ cs. runs (receiver.answering M m) cs (every cs);

@@ -15,11 +15,9 @@ use Rattle.stage.specs.Piled.{piled}
 use Rattle.settings.specs.Codes.{settings-read}
 use Rattle.tps.specs.Block.{blocks}
 use Rattle.tps.specs.Laws.{Identifier}
-use Rattle.broadcast.specs.Calls.{Answer, refused, done, Event, calls-of, bytes, closing-packets, unfit, meant, is-started}
+use Rattle.broadcast.specs.Calls.{Answer, refused, done, Event, bytes, closing-packets, unfit, meant, is-started}
 use Rattle.broadcast.specs.Line as line
 use Rattle.broadcast.specs.Receiver as receiver
-use Rattle.broadcast.specs.LineSteps as line-steps
-use Rattle.broadcast.specs.ReceiverSteps as receiver-steps
 
 -- Calls on one line from new, over a pile, with what they answered.
 pub record Transmission : Type 0 where
@@ -165,13 +163,3 @@ plain = record {
 pub record Broadcasts-exist : Type 0 where
   pub shortest : (M : Model) (c : Codes) → Rule M → Identifier (c .identifier) → unfit M c ≡ None → (r : Transmission) × Shortest M c r
   pub of-no-coding : Rule plain
-
--- The machines of line and receiver, which the contracts of their calls cite, go exactly the successions.
-pub record Calls-follow-accepted (M : Model) : Type 0 where
-  pub line-goes : (cs : List line.Call) → All line.Typed cs → line.Succession M (line-steps.events M line-steps.idle cs)
-  pub line-only : (es : List (Event line.Call)) → line.Succession M es → line-steps.events M line-steps.idle (calls-of es) ≡ es
-  pub receiver-goes : (cs : List receiver.Call) → receiver.Succession M (receiver-steps.events M receiver-steps.idle cs)
-  pub receiver-only : (es : List (Event receiver.Call)) → receiver.Succession M es → receiver-steps.events M receiver-steps.idle (calls-of es) ≡ es
-
-abbrev pub Calls-follow : Type 0
-Calls-follow = (M : Model) → Rule M → Calls-follow-accepted M

@@ -5,3 +5,4 @@ pub mod Claims
 pub mod Steps
 pub mod LineSteps
 pub mod ReceiverSteps
+pub mod Exactly

@@ -10,7 +10,8 @@ ghost use Rattle.refusal.specs.Numbers.{refused-by};
 ghost use Rattle.settings.specs.Codes.{settings-read};
 ghost use Rattle.settings.specs.SuperFrame.{super-frame-packets};
 ghost use Rattle.broadcast.specs.Calls.{unfit};
-ghost use Rattle.broadcast.specs.Claims.{Broadcasts-hold, Broadcasts-exist, Calls-follow, Holds-over};
+ghost use Rattle.broadcast.specs.Claims.{Broadcasts-hold, Broadcasts-exist, Holds-over};
+ghost use Rattle.broadcast.specs.Exactly.{Steps-go-successions};
 use refusal::Refusal;
 use settings::Codes;
 use settings::Settings;
@@ -30,8 +31,8 @@ pub fn broadcasts_exist()
 {}
 
 // The steps by which the calls are specified go exactly the successions.
-pub fn calls_follow()
-    ensures { λ _. ⌜ Calls-follow ⌝ }
+pub fn steps_go_successions()
+    ensures { λ _. ⌜ Steps-go-successions ⌝ }
 {}
 
 // What holds of every broadcast over this pile.

@@ -8,6 +8,7 @@ ghost use lib.Dec.{eqb};
 ghost use lib.ListN.{take};
 ghost use Rattle.tps.specs.Laws.{Identifier};
 ghost use Rattle.stage.specs.Model.{fed, some};
+ghost use Rattle.broadcast.specs.Calls.{bytes, closing-packets};
 ghost use Rattle.broadcast.specs.Line.{room, written, start as start-call, packet as packet-call, cells as cells-call, close as close-call, tps as tps-call};
 ghost use Rattle.broadcast.specs.LineSteps.{idle as idle-line, Gone-through};
 ghost use Rattle.broadcast.specs.Claims.{Holds-over};
@@ -71,6 +72,13 @@ fn fill<P: Stage>(pile: &mut P, pending: &mut Pending, buffer: &mut [u8]) -> usi
         count += 1;
     }
     count
+}
+
+// A super-frame of null packets is pending in place of what is left.
+fn set_closing(frame: &Frame, pending: &mut Pending)
+    ensures { λ _. ⌜ bytes-of (now (pending .exit)) ≡ bytes (closing-packets (now (frame .entry) .settings)) ⌝ }
+{
+    pending.set_nulls(frame.packets);
 }
 
 // An identifier is a number of 16 bits.
@@ -156,7 +164,7 @@ impl<P: Stage> Line<P> {
         if pump(&mut self.pile, &mut self.pending) {
             return Err(Refusal::CellsWait);
         }
-        self.pending.set_nulls(self.frame.packets);
+        set_closing(&self.frame, &mut self.pending);
         self.phase = Phase::Closing;
         Ok(())
     }

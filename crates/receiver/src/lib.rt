@@ -116,8 +116,7 @@ impl<P: Stage> Receiver<P> {
         if self.gathered.packet[0] != 0x47 {
             return Err(Missed::Failed(Fault { stage: 0, cause: 5 }));
         }
-        buffer.copy_from_slice(&self.gathered.packet);
-        self.gathered.count = 0;
+        self.gathered.empty_into(buffer);
         Ok(188)
     }
 }

@@ -1,11 +1,10 @@
 use lib.Dec.{eqb}
-use lib.ListN.{replicate}
 use mathlib.Core.List.{[]}
 use mathlib.Core.Path.{_≡_, sym, ap, _∙_}
 use native.Mathlib.Omega.{arith}
 use Rattle.stage.specs.Model.{Sending, fed}
 use Rattle.stage.proofs.Waits.{none-waits}
-use Rattle.broadcast.specs.Calls.{bytes, null-packet, closing-packets}
+use Rattle.broadcast.specs.Calls.{bytes, closing-packets}
 use Rattle.line.specs.View.{bytes-of}
 use Rattle.line.proofs.Calling.{close-does, none-waits-fed, fed-further}
 use Rattle.line.proofs.Line.finish.Needs as need
@@ -25,9 +24,9 @@ returns g c =
     record {
       fixed = pumped .fixed;
       does = close-does (p .model (l .pile)) (eqb (p .model (l .pile) .taken) 256) (eqb (p .model (c .pump .last .pile) .taken) 256)
-          (l .phase) (l .frame) side (fed s (bytes-of (c .set-nulls .last .self)))
+          (l .phase) (l .frame) side (fed s (bytes-of (c .set-closing .last .pending)))
           (sym (c .admit .ensures) ∙ c .in-Continue-admit .was tt) (ap (λ m. eqb (m .taken) 256) (pumped .fixed))
           begun (none-waits-fed s side ps grow (pumped .side) none idle)
-          (ap (fed s) (c .set-nulls .ensures ∙ ap (λ n. bytes (replicate n null-packet)) (l .frame .whole))
+          (ap (fed s) (c .set-closing .ensures)
           ∙ fed-further s side ps grow (pumped .side) none (bytes (closing-packets (l .frame .settings))));
     }

@@ -44,7 +44,7 @@ returns g c =
     let right : eqb (getD (units-of h) 0 0) 0x47 ≡ true = ap (λ xs. eqb (getD xs 0 0) 0x47) all ∙ eq-eqb (getD (h .packet) 0 0) 0x47 (c .if-self-ne71 .left) in
     record {
       fixed = got .fixed;
-      does = ap (λ b. outcome (counted 188) b (tuned-by (r .settings) (held [] after))) (c .copy-from-slice .ensures .after ∙ sym all)
+      does = (λ i. outcome (counted 188) ((c .empty-into .ensures .buffer ∙ sym all) i) (tuned-by (r .settings) (held (c .empty-into .ensures .units i) after)))
           ∙ collect-does (p .model (r .pile)) (r .settings) (set .0) (set .1) (units-of h) (c .args .buffer .now) side after
           (ap length all ∙ h .sized) (got .side) (omega arith) right;
     }
