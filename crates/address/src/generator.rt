@@ -90,7 +90,7 @@ fn address_at(mode: Mode, i: u16, register: u16) -> u16
 }
 
 // H, from the front of a store for the longest one; an address that is N or more is passed over.
-pub fn filled(mode: Mode) -> [u16; 6048]
+pub(crate) fn filled(mode: Mode) -> [u16; 6048]
     ensures { λ r. ⌜ take (symbol-cells mode) r ≡ addresses-of mode ⌝ }
 {
     let words = mode.symbol_cells() as u16;

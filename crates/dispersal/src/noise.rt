@@ -63,7 +63,7 @@ fn next_place(place: u16) -> u16
 }
 
 impl Noise {
-    pub fn new() -> Noise
+    pub(crate) fn new() -> Noise
         ensures { λ r. ⌜ r .place ≡ 0 ⌝ }
     {
         Noise {
@@ -73,7 +73,7 @@ impl Noise {
     }
 
     // Combines one byte, and goes on to the next place.
-    pub fn pass(&mut self, byte: u8) -> u8
+    pub(crate) fn pass(&mut self, byte: u8) -> u8
         ensures out { λ r. ⌜ r ≡ bitXor byte (mask (now (self .entry) .place)) ⌝ }
         ensures on { λ _. ⌜ now (self .exit) .place ≡ (now (self .entry) .place + 1) % 1504 ⌝ }
     {

@@ -4,7 +4,7 @@ ghost use Rattle.refusal.specs.Numbers.{refused-by};
 ghost use Rattle.host.specs.Answer.{answer-of};
 use refusal::Refusal;
 
-pub fn answer(result: Result<(), Refusal>) -> u8
+pub(crate) fn answer(result: Result<(), Refusal>) -> u8
     ensures { λ r. ⌜ r ≡ answer-of (refused-by result) ⌝ }
 {
     match result {

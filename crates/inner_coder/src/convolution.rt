@@ -16,14 +16,14 @@ fn output(register: u8, taps: u8) -> u8
     ((register & taps).count_ones() % 2) as u8
 }
 
-pub fn output_y(register: u8) -> u8
+pub(crate) fn output_y(register: u8) -> u8
     ensures { λ r. ⌜ r ≡ y-of register ⌝ }
 {
     output(register, Y_TAPS)
 }
 
 // The first unit that is sent of a register.
-pub fn first_unit(sent: Sent, register: u8) -> u8
+pub(crate) fn first_unit(sent: Sent, register: u8) -> u8
     ensures { λ r. ⌜ r ≡ first-of sent register ⌝ }
 {
     match sent {
@@ -40,7 +40,7 @@ pub struct Walk {
 }
 
 impl Walk {
-    pub fn new() -> Walk
+    pub(crate) fn new() -> Walk
         ensures { λ r. ⌜ r ≡ record { phase = 0; register = 0 } ⌝ }
     {
         Walk {
@@ -50,7 +50,7 @@ impl Walk {
     }
 
     // Takes in one bit. The period runs on over packets and all else that the bits belong to.
-    pub fn shift(&mut self, period: usize, bit: u8)
+    pub(crate) fn shift(&mut self, period: usize, bit: u8)
         requires { ⌜ now self .phase < period ⌝ ∗ ⌜ now self .register < 128 ⌝ ∗ ⌜ bit < 2 ⌝ }
         ensures phase { λ _. ⌜ now (self .exit) .phase ≡ onward period (now (self .entry) .phase) ⌝ }
         ensures within { λ _. ⌜ now (self .exit) .phase < period ⌝ }

@@ -29,7 +29,7 @@ const SEVEN_EIGHTHS: [Sent; 7] = [
     Sent::X,
 ];
 
-pub fn pattern(rate: Rate) -> &'static [Sent]
+pub(crate) fn pattern(rate: Rate) -> &'static [Sent]
     ensures { λ r. ⌜ now r ≡ pattern-of rate ⌝ }
 {
     match rate {

@@ -6,7 +6,7 @@ ghost use Rattle.stage.specs.Rule.{capped};
 use settings::Constellation;
 
 // How many words of v bits there are.
-pub fn limit(constellation: Constellation) -> u16
+pub(crate) fn limit(constellation: Constellation) -> u16
     ensures { λ r. ⌜ r ≡ 2 ^ word-bits constellation ⌝ }
 {
     match constellation {
@@ -17,7 +17,7 @@ pub fn limit(constellation: Constellation) -> u16
 }
 
 // What a hold's formula gives for m, stopped at the largest number; that number's own hold is itself.
-pub fn stopped(m: u32, formula: u64) -> u32
+pub(crate) fn stopped(m: u32, formula: u64) -> u32
     ensures { λ r. ⌜ r ≡ capped (λ _. formula) m ⌝ }
 {
     if m == u32::MAX || formula > u64::from(u32::MAX) {

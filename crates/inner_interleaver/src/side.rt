@@ -32,7 +32,7 @@ fn reorder(addresses: &Addresses, parity: Parity, words: &[u8; 6048], moved: &mu
 }
 
 impl Side {
-    pub fn new(parity: Parity) -> Side
+    pub(crate) fn new(parity: Parity) -> Side
         ensures side { λ r. ⌜ r ≡ renewed parity r ⌝ }
         ensures words { λ r. ⌜ ((k : ℕ) → getD (r .words) k 0 ≡ 0) ⌝ }
         ensures moved { λ r. ⌜ ((k : ℕ) → getD (r .moved) k 0 ≡ 0) ⌝ }
@@ -46,7 +46,7 @@ impl Side {
         }
     }
 
-    pub fn renew(&mut self, parity: Parity)
+    pub(crate) fn renew(&mut self, parity: Parity)
         ensures { λ _. ⌜ now (self .exit) ≡ renewed parity (now (self .entry)) ⌝ }
     {
         self.have = 0;
@@ -55,7 +55,7 @@ impl Side {
     }
 
     // Does a word of the last symbol, of n words, wait?
-    pub fn waits(&self, n: usize) -> bool
+    pub(crate) fn waits(&self, n: usize) -> bool
         ensures answers { λ r. ⌜ r ≡ ltb (now (self .entry) .at) n ⌝ }
         ensures roomy { λ _. ⌜ Roomy (now (self .entry)) ⌝ }
     {
@@ -77,7 +77,7 @@ impl Side {
     }
 
     // The next word, where nothing waits.
-    pub fn put(&mut self, addresses: &Addresses, unit: u8)
+    pub(crate) fn put(&mut self, addresses: &Addresses, unit: u8)
         requires { ⌜ now self .have < symbol-cells (now addresses .mode) ⌝ }
         ensures { λ _. ⌜ now (self .exit) ≡ put-in (now (addresses .entry) .mode) (now (self .entry)) unit ⌝ }
     {
@@ -89,7 +89,7 @@ impl Side {
         }
     }
 
-    pub fn take(&mut self, n: usize) -> Option<u8>
+    pub(crate) fn take(&mut self, n: usize) -> Option<u8>
         requires { ⌜ n ≤ 6048 ⌝ }
         ensures answers { λ r. ⌜ r ≡ next-word n (now (self .entry)) ⌝ }
         ensures side { λ _. ⌜ now (self .exit) ≡ advanced n (now (self .entry)) ⌝ }

@@ -11,7 +11,7 @@ use settings::Constellation;
 pub const WORDS: usize = 126;
 
 // Bits in a block.
-pub fn block(constellation: Constellation) -> usize
+pub(crate) fn block(constellation: Constellation) -> usize
     ensures { λ r. ⌜ r ≡ 126 * word-bits constellation ⌝ }
 {
     match constellation {
@@ -97,7 +97,7 @@ fn dealt(constellation: Constellation, p: usize) -> (usize, usize)
 }
 
 // Word w of the block.
-pub fn word(constellation: Constellation, bits: &[u8; 756], w: usize) -> u8
+pub(crate) fn word(constellation: Constellation, bits: &[u8; 756], w: usize) -> u8
     requires place { ⌜ w < 126 ⌝ }
     requires bits { ⌜ ((k : ℕ) → getD (now bits) k 0 < 2) ⌝ }
     ensures is { λ r. ⌜ r ≡ word-at constellation (now (bits .entry)) w ⌝ }
@@ -113,7 +113,7 @@ pub fn word(constellation: Constellation, bits: &[u8; 756], w: usize) -> u8
 }
 
 // Bit p of the block.
-pub fn bit(constellation: Constellation, words: &[u8; 126], p: usize) -> u8
+pub(crate) fn bit(constellation: Constellation, words: &[u8; 126], p: usize) -> u8
     requires { ⌜ p < 126 * word-bits constellation ⌝ }
     ensures { λ r. ⌜ r ≡ bit-at constellation (now (words .entry)) p ⌝ }
 {

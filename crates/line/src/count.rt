@@ -11,7 +11,7 @@ use settings::Settings;
 
 impl Frame {
     // No packet was accepted yet.
-    pub fn new(settings: Settings) -> Frame
+    pub(crate) fn new(settings: Settings) -> Frame
         requires { ⌜ 1 ≤ super-frame-packets settings ⌝ }
         ensures settings { λ r. ⌜ r .settings ≡ settings ⌝ }
         ensures begun { λ r. ⌜ r .begun ≡ 0 ⌝ }
@@ -25,7 +25,7 @@ impl Frame {
     }
 
     // Stands in until a start is accepted.
-    pub fn none() -> Frame {
+    pub(crate) fn none() -> Frame {
         Frame::new(Settings {
             mode: Mode::TwoK,
             constellation: Constellation::Qpsk,
@@ -36,7 +36,7 @@ impl Frame {
     }
 
     // One packet more.
-    pub fn count(&mut self)
+    pub(crate) fn count(&mut self)
         ensures settings { λ _. ⌜ now (self .exit) .settings ≡ now (self .entry) .settings ⌝ }
         ensures begun { λ _. ⌜ now (self .exit) .begun ≡ (now (self .entry) .begun + 1) % super-frame-packets (now (self .entry) .settings) ⌝ }
     {

@@ -18,7 +18,7 @@ fn null_packet() -> [u8; 188]
 }
 
 impl Pending {
-    pub fn none() -> Pending
+    pub(crate) fn none() -> Pending
         ensures { λ r. ⌜ bytes-of r ≡ [] ⌝ }
     {
         Pending {
@@ -29,7 +29,7 @@ impl Pending {
     }
 
     // The next byte.
-    pub fn pull(&mut self) -> Option<u8>
+    pub(crate) fn pull(&mut self) -> Option<u8>
         ensures answers { λ r. ⌜ r ≡ first (bytes-of (now (self .entry))) ⌝ }
         ensures rest { λ _. ⌜ bytes-of (now (self .exit)) ≡ others (bytes-of (now (self .entry))) ⌝ }
     {
@@ -48,7 +48,7 @@ impl Pending {
     }
 
     // A packet in place of what is left.
-    pub fn set_packet(&mut self, packet: &[u8])
+    pub(crate) fn set_packet(&mut self, packet: &[u8])
         requires { ⌜ length (now packet) ≡ 188 ⌝ }
         ensures { λ _. ⌜ bytes-of (now (self .exit)) ≡ now (packet .entry) ⌝ }
     {
@@ -58,7 +58,7 @@ impl Pending {
     }
 
     // Null packets in place of what is left.
-    pub fn set_nulls(&mut self, count: u32)
+    pub(crate) fn set_nulls(&mut self, count: u32)
         ensures { λ _. ⌜ bytes-of (now (self .exit)) ≡ bytes (replicate count null-packet) ⌝ }
     {
         self.at = 188;

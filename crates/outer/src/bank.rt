@@ -26,7 +26,7 @@ fn pass_at(branches: &mut [Branch; 12], turn: usize, byte: u8) -> u8
 
 impl Bank {
     // Branch j delays by 17 × j of its own bytes.
-    pub fn sending() -> Bank
+    pub(crate) fn sending() -> Bank
         ensures { λ r. ⌜ branches-of (r .branches) (r .turn) ≡ new-branches sending-depths ⌝ }
     {
         Bank {
@@ -49,7 +49,7 @@ impl Bank {
     }
 
     // Branch j delays by 17 × (11 − j) of its own bytes.
-    pub fn hearing() -> Bank
+    pub(crate) fn hearing() -> Bank
         ensures { λ r. ⌜ branches-of (r .branches) (r .turn) ≡ new-branches hearing-depths ⌝ }
     {
         Bank {
@@ -71,13 +71,13 @@ impl Bank {
         }
     }
 
-    pub fn turn(&self) -> usize
+    pub(crate) fn turn(&self) -> usize
         ensures { λ r. ⌜ r ≡ now (self .entry) .turn ⌝ }
     {
         self.turn
     }
 
-    pub fn pass(&mut self, byte: u8) -> u8
+    pub(crate) fn pass(&mut self, byte: u8) -> u8
         ensures out { λ r. ⌜ r ≡ passed (branches-of (now (self .entry) .branches) (now (self .entry) .turn)) byte ⌝ }
         ensures on { λ _. ⌜ branches-of (now (self .exit) .branches) (now (self .exit) .turn) ≡ passing (branches-of (now (self .entry) .branches) (now (self .entry) .turn)) byte ⌝ }
     {

@@ -19,7 +19,7 @@ pub struct Branch {
 
 impl Branch {
     // Nothing has reached it: its places hold 0.
-    pub fn new(depth: usize) -> Branch
+    pub(crate) fn new(depth: usize) -> Branch
         requires { ⌜ depth ≤ 187 ⌝ }
         ensures { λ r. ⌜ ring (r .store) (r .depth) (r .place) ≡ replicate depth 0 ⌝ }
     {
@@ -31,7 +31,7 @@ impl Branch {
     }
 
     // A byte goes in, and the oldest one leaves.
-    pub fn pass(&mut self, byte: u8) -> u8
+    pub(crate) fn pass(&mut self, byte: u8) -> u8
         ensures out { λ r. ⌜ r ≡ oldest (ring (now (self .entry) .store) (now (self .entry) .depth) (now (self .entry) .place) ++ byte ∷ []) ⌝ }
         ensures left { λ _. ⌜ ring (now (self .exit) .store) (now (self .exit) .depth) (now (self .exit) .place) ≡ drop 1 (ring (now (self .entry) .store) (now (self .entry) .depth) (now (self .entry) .place) ++ byte ∷ []) ⌝ }
     {

@@ -6,7 +6,7 @@ ghost use Rattle.address.specs.Permutation.{Permutes};
 ghost use Rattle.permute.specs.Permuted.{Moved};
 
 // Puts the element at q to the place table[q].
-pub fn scatter<T: Copy>(table: &[u16], from: &[T], to: &mut [T])
+pub(crate) fn scatter<T: Copy>(table: &[u16], from: &[T], to: &mut [T])
     requires permutes { ⌜ Permutes (length (now table)) (now table) ⌝ }
     requires from { ⌜ length (now table) ≤ length (now from) ⌝ }
     requires to { ⌜ length (now table) ≤ length (now to) ⌝ }
@@ -19,7 +19,7 @@ pub fn scatter<T: Copy>(table: &[u16], from: &[T], to: &mut [T])
 }
 
 // Puts the element at table[q] to the place q.
-pub fn gather<T: Copy>(table: &[u16], from: &[T], to: &mut [T])
+pub(crate) fn gather<T: Copy>(table: &[u16], from: &[T], to: &mut [T])
     requires permutes { ⌜ Permutes (length (now table)) (now table) ⌝ }
     requires from { ⌜ length (now table) ≤ length (now from) ⌝ }
     requires to { ⌜ length (now table) ≤ length (now to) ⌝ }

@@ -7,7 +7,7 @@ ghost use Rattle.receiver.specs.View.{units-of};
 use super::gathered::Gathered;
 
 impl Gathered {
-    pub fn none() -> Gathered
+    pub(crate) fn none() -> Gathered
         ensures { λ r. ⌜ units-of r ≡ [] ⌝ }
     {
         Gathered {
@@ -16,7 +16,7 @@ impl Gathered {
         }
     }
 
-    pub fn push(&mut self, unit: u8)
+    pub(crate) fn push(&mut self, unit: u8)
         requires { ⌜ now self .count < 188 ⌝ }
         ensures count { λ _. ⌜ now (self .exit) .count ≡ now (self .entry) .count + 1 ⌝ }
         ensures units { λ _. ⌜ units-of (now (self .exit)) ≡ units-of (now (self .entry)) ++ unit ∷ [] ⌝ }
@@ -26,7 +26,7 @@ impl Gathered {
     }
 
     // The bytes go into a buffer, and none is left.
-    pub fn empty_into(&mut self, buffer: &mut [u8])
+    pub(crate) fn empty_into(&mut self, buffer: &mut [u8])
         requires { ⌜ length (now buffer) ≡ 188 ⌝ }
         ensures buffer { λ _. ⌜ now (buffer .exit) ≡ now (self .entry) .packet ⌝ }
         ensures units { λ _. ⌜ units-of (now (self .exit)) ≡ [] ⌝ }

@@ -5,26 +5,26 @@ ghost use lib.ListN.{drop, getD};
 ghost use Rattle.reed.specs.Field.{sums};
 ghost use Rattle.reed.specs.Registers.{sixteen};
 
-pub fn first(register: u128) -> u8
+pub(crate) fn first(register: u128) -> u8
     ensures { λ r. ⌜ r ≡ getD (sixteen register) 0 0 ⌝ }
 {
     (register >> 120) as u8
 }
 
 // All but the first move up by one place, and 0 follows.
-pub fn moved_up(register: u128) -> u128
+pub(crate) fn moved_up(register: u128) -> u128
     ensures { λ r. ⌜ sixteen r ≡ drop 1 (sixteen register) ++ 0 ∷ [] ⌝ }
 {
     register << 8
 }
 
-pub fn sum(a: u128, b: u128) -> u128
+pub(crate) fn sum(a: u128, b: u128) -> u128
     ensures { λ r. ⌜ sixteen r ≡ sums (sixteen a) (sixteen b) ⌝ }
 {
     a ^ b
 }
 
-pub fn bytes(register: u128) -> [u8; 16]
+pub(crate) fn bytes(register: u128) -> [u8; 16]
     ensures { λ r. ⌜ r ≡ sixteen register ⌝ }
 {
     register.to_be_bytes()

@@ -45,7 +45,7 @@ const LOWER: [u128; 16] = [
 ];
 
 // The factor times g(x), below x^16.
-pub fn row(factor: u8) -> u128
+pub(crate) fn row(factor: u8) -> u128
     ensures { λ r. ⌜ sixteen r ≡ scaled factor taps ⌝ }
 {
     HIGHER[(factor / 16) as usize] ^ LOWER[(factor % 16) as usize]

@@ -7,7 +7,7 @@ use settings::Sheet;
 use std::alloc::AllocError;
 use std::alloc::Global;
 
-pub fn report(heap: Global, input: &[u8]) -> Result<String, AllocError>
+pub(crate) fn report(heap: Global, input: &[u8]) -> Result<String, AllocError>
     ensures { λ r. ⌜ made r (λ text. string-bytes text ≡ report-of (now (input .entry))) ⌝ }
 {
     match Sheet::of(input) {

@@ -12,13 +12,13 @@ pub struct Field {
 }
 
 impl Field {
-    pub fn new(width: usize, value: u32) -> Field
+    pub(crate) fn new(width: usize, value: u32) -> Field
         ensures { λ r. ⌜ r ≡ field width value ⌝ }
     {
         Field { width, value }
     }
 
-    pub fn write(self, buffer: &mut [u8], at: usize)
+    pub(crate) fn write(self, buffer: &mut [u8], at: usize)
         requires { ⌜ at + self .width ≤ length (now buffer) ⌝ }
         ensures { λ _. ⌜ now (buffer .exit) ≡ put self at (now (buffer .entry)) ⌝ }
     {
@@ -31,7 +31,7 @@ impl Field {
 }
 
 // Writes fields one after another at the front of a buffer.
-pub fn write_all(fields: &[Field], buffer: &mut [u8])
+pub(crate) fn write_all(fields: &[Field], buffer: &mut [u8])
     requires { ⌜ length (sent (now fields)) ≤ length (now buffer) ⌝ }
     ensures { λ _. ⌜ now (buffer .exit) ≡ sent (now (fields .entry)) ++ drop (length (sent (now (fields .entry)))) (now (buffer .entry)) ⌝ }
 {

@@ -14,7 +14,7 @@ fn reduced(n: u32) -> u32
 }
 
 // Long division: bit by bit is brought down, and h taken off where it goes.
-pub fn remainder(bits: &[u8]) -> u32
+pub(crate) fn remainder(bits: &[u8]) -> u32
     requires { ⌜ All (λ b. b < 2) (now bits) ⌝ }
     ensures { λ r. ⌜ r ≡ remainder-from 0 (now (bits .entry)) ⌝ }
 {
