@@ -8,8 +8,10 @@ ghost use Rattle.stage.specs.Model.{new-sending, new-receiving};
 ghost use Rattle.stage.specs.Piled.{fits, piled, piled-sending, piled-receiving};
 use stage::Stage;
 
-pub mod rule;
+mod rule;
 mod settle;
+
+pub use rule::PileStage;
 
 #[derive(Drop)]
 pub struct Pile<U, L> {
