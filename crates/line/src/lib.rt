@@ -7,7 +7,7 @@ ghost use mathlib.Core.List.{[]};
 ghost use lib.Dec.{eqb};
 ghost use lib.ListN.{take};
 ghost use Rattle.tps.specs.Laws.{Identifier};
-ghost use Rattle.stage.specs.Model.{fed, some};
+ghost use Rattle.stage.specs.Model.{fed, some, new-sending};
 ghost use Rattle.broadcast.specs.Calls.{bytes, closing-packets};
 ghost use Rattle.broadcast.specs.Line.{room, written, start as start-call, packet as packet-call, cells as cells-call, close as close-call, tps as tps-call};
 ghost use Rattle.broadcast.specs.LineSteps.{idle as idle-line, Gone-through};
@@ -74,6 +74,16 @@ fn fill<P: Stage>(pile: &mut P, pending: &mut Pending, buffer: &mut [u8]) -> usi
     count
 }
 
+// The pile is new, and nothing is pending.
+fn clear<P: Stage>(pile: &mut P, pending: &mut Pending)
+    ensures fixed { λ _. ⌜ P·Stage .model (now (pile .exit)) ≡ P·Stage .model (now (pile .entry)) ⌝ }
+    ensures sends { λ _. ⌜ P·Stage .sending (now (pile .exit)) ≡ new-sending (P·Stage .model (now (pile .entry))) ⌝ }
+    ensures none { λ _. ⌜ bytes-of (now (pending .exit)) ≡ [] ⌝ }
+{
+    pile.renew();
+    *pending = Pending::none();
+}
+
 // A super-frame of null packets is pending in place of what is left.
 fn set_closing(frame: &Frame, pending: &mut Pending)
     ensures { λ _. ⌜ bytes-of (now (pending .exit)) ≡ bytes (closing-packets (now (frame .entry) .settings)) ⌝ }
@@ -116,10 +126,9 @@ impl<P: Stage> Line<P> {
     {
         self.admit(Call::Start)?;
         let settings = fit(&self.pile, codes)?;
-        self.pile.renew();
+        clear(&mut self.pile, &mut self.pending);
         self.phase = Phase::Open;
         self.frame = Frame::new(settings);
-        self.pending = Pending::none();
         Ok(())
     }
 

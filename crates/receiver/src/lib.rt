@@ -6,7 +6,7 @@ ghost use mathlib.Core.Path.{_≡_};
 ghost use mathlib.Core.Bool.{true, false};
 ghost use mathlib.Core.List.{[]};
 ghost use Rattle.std.specs.declared.result.Result.the-variants.{Ok};
-ghost use Rattle.stage.specs.Model.{silence};
+ghost use Rattle.stage.specs.Model.{silence, new-receiving};
 ghost use Rattle.broadcast.specs.Receiver.{next, is-some, start as start-call, hear as hear-call, collect as collect-call};
 ghost use Rattle.broadcast.specs.ReceiverSteps.{idle as idle-receiver, Gone-through};
 ghost use Rattle.broadcast.specs.Claims.{Holds-over};
@@ -66,6 +66,16 @@ fn waits<P: Stage>(pile: &mut P, gathered: &mut Gathered) -> bool
     }
 }
 
+// The pile is new, and nothing is gathered.
+fn clear<P: Stage>(pile: &mut P, gathered: &mut Gathered)
+    ensures fixed { λ _. ⌜ P·Stage .model (now (pile .exit)) ≡ P·Stage .model (now (pile .entry)) ⌝ }
+    ensures hears { λ _. ⌜ P·Stage .receiving (now (pile .exit)) ≡ new-receiving (P·Stage .model (now (pile .entry))) ⌝ }
+    ensures none { λ _. ⌜ units-of (now (gathered .exit)) ≡ [] ⌝ }
+{
+    pile.renew();
+    *gathered = Gathered::none();
+}
+
 // What each call does.
 impl<P: Stage> Receiver<P> {
     fn begin(&mut self, codes: &Codes) -> Result<(), Refusal>
@@ -76,9 +86,8 @@ impl<P: Stage> Receiver<P> {
             return Err(Refusal::Started);
         }
         let settings = fit(&self.pile, codes)?;
-        self.pile.renew();
+        clear(&mut self.pile, &mut self.gathered);
         self.settings = Some(settings);
-        self.gathered = Gathered::none();
         Ok(())
     }
 
