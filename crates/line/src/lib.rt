@@ -91,7 +91,7 @@ fn set_closing(frame: &Frame, pending: &mut Pending)
     pending.set_nulls(frame.packets);
 }
 
-// An identifier is a number of 16 bits.
+// An identifier is a number of 16 bits, which the proof learns where one is read.
 fn identified(codes: &Codes)
     ensures { λ _. ⌜ Identifier (now (codes .entry) .identifier) ⌝ }
 {
@@ -120,6 +120,7 @@ impl<P: Stage> Line<P> {
         }
     }
 
+    // start
     fn begin(&mut self, codes: &Codes) -> Result<(), Refusal>
         ensures fixed { λ _. ⌜ P·Stage .model (now (self .exit) .pile) ≡ P·Stage .model (now (self .entry) .pile) ⌝ }
         ensures does { λ r. ⌜ Does (P·Stage .model) (P·Stage .sending) (now (self .entry)) (now (self .exit)) (start-call (now (codes .entry))) (done-by r) [] ⌝ }
@@ -132,6 +133,7 @@ impl<P: Stage> Line<P> {
         Ok(())
     }
 
+    // packet
     fn accept(&mut self, packet: &[u8]) -> Result<(), Refusal>
         ensures fixed { λ _. ⌜ P·Stage .model (now (self .exit) .pile) ≡ P·Stage .model (now (self .entry) .pile) ⌝ }
         ensures does { λ r. ⌜ Does (P·Stage .model) (P·Stage .sending) (now (self .entry)) (now (self .exit)) (packet-call (now (packet .entry))) (done-by r) (now (packet .entry)) ⌝ }
@@ -154,6 +156,7 @@ impl<P: Stage> Line<P> {
         Ok(())
     }
 
+    // cells
     fn write(&mut self, buffer: &mut [u8]) -> Result<usize, Refusal>
         ensures fixed { λ _. ⌜ P·Stage .model (now (self .exit) .pile) ≡ P·Stage .model (now (self .entry) .pile) ⌝ }
         ensures does { λ r. ⌜ Does (P·Stage .model) (P·Stage .sending) (now (self .entry)) (now (self .exit)) (cells-call (now (buffer .entry))) (counted-by r) (now (buffer .exit)) ⌝ }
@@ -162,6 +165,7 @@ impl<P: Stage> Line<P> {
         Ok(fill(&mut self.pile, &mut self.pending, buffer))
     }
 
+    // close
     fn finish(&mut self) -> Result<(), Refusal>
         ensures fixed { λ _. ⌜ P·Stage .model (now (self .exit) .pile) ≡ P·Stage .model (now (self .entry) .pile) ⌝ }
         ensures does { λ r. ⌜ Does (P·Stage .model) (P·Stage .sending) (now (self .entry)) (now (self .exit)) close-call (done-by r) [] ⌝ }
@@ -178,6 +182,7 @@ impl<P: Stage> Line<P> {
         Ok(())
     }
 
+    // tps
     fn signal(&self, frame: u8, buffer: &mut [u8]) -> Result<(), Refusal>
         ensures { λ r. ⌜ Does (P·Stage .model) (P·Stage .sending) (now (self .entry)) (now (self .entry)) (tps-call frame (now (buffer .entry))) (done-by r) (now (buffer .exit)) ⌝ }
     {

@@ -78,6 +78,7 @@ fn clear<P: Stage>(pile: &mut P, gathered: &mut Gathered)
 
 // What each call does.
 impl<P: Stage> Receiver<P> {
+    // start
     fn begin(&mut self, codes: &Codes) -> Result<(), Refusal>
         ensures fixed { λ _. ⌜ P·Stage .model (now (self .exit) .pile) ≡ P·Stage .model (now (self .entry) .pile) ⌝ }
         ensures does { λ r. ⌜ Does (P·Stage .model) (P·Stage .receiving) (now (self .entry)) (now (self .exit)) (start-call (now (codes .entry))) (done-by r) [] ⌝ }
@@ -91,6 +92,7 @@ impl<P: Stage> Receiver<P> {
         Ok(())
     }
 
+    // hear
     fn accept(&mut self, cell: u8) -> Result<(), Refusal>
         ensures fixed { λ _. ⌜ P·Stage .model (now (self .exit) .pile) ≡ P·Stage .model (now (self .entry) .pile) ⌝ }
         ensures does { λ r. ⌜ Does (P·Stage .model) (P·Stage .receiving) (now (self .entry)) (now (self .exit)) (hear-call cell) (done-by r) [] ⌝ }
@@ -108,6 +110,7 @@ impl<P: Stage> Receiver<P> {
         Ok(())
     }
 
+    // collect
     fn hand_out(&mut self, buffer: &mut [u8]) -> Result<usize, Missed>
         ensures fixed { λ _. ⌜ P·Stage .model (now (self .exit) .pile) ≡ P·Stage .model (now (self .entry) .pile) ⌝ }
         ensures does { λ r. ⌜ Does (P·Stage .model) (P·Stage .receiving) (now (self .entry)) (now (self .exit)) (collect-call (now (buffer .entry))) (collected-by r) (now (buffer .exit)) ⌝ }
