@@ -1,5 +1,5 @@
 -- A broadcast's cells are what the new pile gives for the accepted and the closing packets.
-use mathlib.Core.Path.{_≡_, refl, sym, ap, subst, _∙_}
+use mathlib.Core.Path.{_≡_, sym, ap, _∙_}
 use mathlib.Core.List.{List, [], _∷_, _++_}
 use mathlib.Core.Bool.{Bool, true}
 use Prim.Native.Nat.{ℕ, _%_}
@@ -9,17 +9,15 @@ use Rattle.std.specs.shelf.Lists.{joined}
 use Rattle.std.proofs.shelf.Lists.{append-nil}
 use Rattle.settings.specs.declared.Settings.{Settings}
 use Rattle.stage.specs.Model.{Model}
-use Rattle.stage.specs.Rule.{Rule}
 use Rattle.settings.specs.SuperFrame.{super-frame-packets}
 use Rattle.broadcast.specs.Calls.{bytes, calls-of, closing-packets}
-use Rattle.broadcast.specs.Line.{closed-by, waiting, Standing}
+use Rattle.broadcast.specs.Line.{closed-by, Standing}
 use Rattle.broadcast.specs.Steps.{state-after}
 use Rattle.broadcast.specs.LineSteps.{Line, idle, opened, closing, step}
 use Rattle.broadcast.specs.Claims.{Transmission, Sound, Has-broadcast, settings, packets, cells, all-packets, Broadcasts-are-the-piles}
 use Rattle.broadcast.proofs.Packets.{bytes-append}
 use Rattle.broadcast.proofs.Going.{known}
 use Rattle.broadcast.proofs.LineRuns.{Accepted, Reached, stands, is-standing, answering}
-use Rattle.broadcast.proofs.Packets.{Packet, Fit}
 
 -- what is so of a succession that has a broadcast
 pub record Whole (M : Model) (ss : List Settings) (ps : List (List ℕ)) (ys : List ℕ) : Type 0 where

@@ -1,13 +1,11 @@
 -- There are broadcasts, and a pile that keeps the rule.
-use mathlib.Core.Path.{_≡_, refl, sym, ap, subst, _∙_}
-use mathlib.Core.List.{List, [], _∷_, _++_}
-use mathlib.Core.Bool.{true}
+use mathlib.Core.Path.{_≡_, refl, sym, ap, _∙_}
+use mathlib.Core.List.{List, [], _∷_}
 use mathlib.Core.Logic.{inr}
 use Prim.Native.Nat.{ℕ, _-_}
 use native.Mathlib.Omega.{arith}
 use lib.Dec.{lit≤}
 use lib.ListN.{length, replicate, length-replicate, length-take}
-use Rattle.std.specs.declared.option.Option.{Option}
 use Rattle.std.specs.declared.option.Option.the-variants.{None}
 use Rattle.std.specs.declared.result.Result.{Result}
 use Rattle.std.specs.declared.result.Result.the-variants.{Ok, Err}
@@ -20,11 +18,12 @@ use Rattle.stage.specs.Rule.{Rule}
 use Rattle.stage.proofs.Fronts.{take-begins}
 use Rattle.settings.specs.Codes.{settings-read}
 use Rattle.tps.specs.Laws.{Identifier}
-use Rattle.broadcast.specs.Calls.{Event, bytes, closing-packets, unfit, unfit-for, unfit-pile, meant}
+use Rattle.broadcast.specs.Calls.{Event, done, bytes, closing-packets, unfit, unfit-for, unfit-pile, meant}
 use Rattle.broadcast.specs.Line.{Call, start, cells, close, settings-of, packets-of, cells-of, closed-by, room, Standing}
-use Rattle.broadcast.specs.Steps.{Outcome, unless, event, state-after}
-use Rattle.broadcast.specs.LineSteps.{Line, idle, started, starting, events, step}
+use Rattle.broadcast.specs.Steps.{Outcome, event, state-after}
+use Rattle.broadcast.specs.LineSteps.{Line, idle, started, events, step}
 use Rattle.broadcast.specs.Claims.{Transmission, Shortest, plain, Broadcasts-exist}
+use Rattle.broadcast.proofs.Deciding.{start-accepted}
 use Rattle.broadcast.proofs.Going.{runs, known}
 use Rattle.broadcast.proofs.LineRuns.{answering, stands, is-standing}
 
@@ -40,8 +39,11 @@ module _ (M : Model) (m : Rule M) (c : Codes) (s : Settings) (reads : settings-r
   shortest = record { over = M; events = events M idle (start c ∷ then-calls) }
 
   -- the start is accepted
-  opened-first : step M idle (start c) ≡ started M s
-  opened-first = ap (starting M) reads ∙ ap (λ (v : Option ℕ). unless v idle [] (started M s)) fits
+  abbrev opened-by : Outcome Line
+  opened-by = record { answer = done; buffer = []; state = started M s }
+
+  opened-first : step M idle (start c) ≡ opened-by
+  opened-first = sym (start-accepted M idle (started M) (settings-read c) s reads (ap (unfit-for M) reads ∙ fits))
 
   abbrev after-start : Outcome Line → List (Event Call)
   after-start o = event (start c) o ∷ events M (o .state) then-calls
@@ -50,7 +52,7 @@ module _ (M : Model) (m : Rule M) (c : Codes) (s : Settings) (reads : settings-r
   is-shortest =
       let k = runs (answering M m) (start c ∷ then-calls) (i, (tt, (tt, tt))) in
       let es = shortest .events in
-      let e : shortest .events ≡ after-start (started M s) = ap after-start opened-first in
+      let e : shortest .events ≡ after-start opened-by = ap after-start opened-first in
       record {
         over-it = refl;
         sound = record { rule = m; succession = k };

@@ -7,7 +7,7 @@ use Rattle.std.specs.shelf.Lists.{All}
 use Rattle.broadcast.specs.Calls.{Event, calls-of, Succession-by}
 use Rattle.broadcast.specs.Steps.{Outcome, event, run, state-after, Went}
 
--- where an element stands in a list that ends in y
+-- nothing stands in an empty list
 no-front : {X : Type 0} (before later : List X) (x : X) → [] ≡ before ++ (x ∷ later) → ⊥
 no-front [] later x e = let z : _≡_ {A = ℕ} 0 1 = cc in omega arith
 no-front (b ∷ before) later x e = let z : _≡_ {A = ℕ} 0 1 = cc in omega arith

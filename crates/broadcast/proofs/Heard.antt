@@ -2,7 +2,7 @@
 use mathlib.Core.Path.{_≡_, refl, sym, ap, subst, _∙_}
 use mathlib.Core.List.{List, [], _∷_, _++_}
 use mathlib.Core.Bool.{Bool, true, false, not, cond}
-use Prim.Native.Nat.{ℕ, _+_, _-_, _*_, _≤_, _<_}
+use Prim.Native.Nat.{ℕ, _+_, _-_, _≤_, _<_}
 use native.Mathlib.Omega.{arith}
 use lib.Dec.{ltb, eqb}
 use lib.ListN.{length, getD, take, length-append}
@@ -10,18 +10,17 @@ use Rattle.std.specs.shelf.Lists.{All, joined}
 use Rattle.std.specs.declared.option.Option.{Option}
 use Rattle.std.specs.declared.option.Option.the-variants.{Some, None}
 use Rattle.std.proofs.shelf.Tests.{ltb-false, lt-ltb, eq-eqb}
-use Rattle.std.proofs.shelf.Lists.{append-nil, append-assoc}
+use Rattle.std.proofs.shelf.Lists.{append-assoc}
 use Rattle.std.proofs.shelf.Elements.{all-append}
-use Rattle.settings.specs.declared.Settings.{Settings}
 use Rattle.stage.specs.declared.Fault.{Fault}
 use Rattle.stage.specs.Model.{Heard, Model}
 use Rattle.stage.specs.Rule.{Under, Begins, Rule, Back, most, without-last}
 use Rattle.stage.proofs.Fronts.{begins-length, begins-both, begins-trans, begins-without, begins-refl, split, all-begins, all-right}
-use Rattle.broadcast.specs.Calls.{Answer, refused, done, Event, calls-of, check, answered, bytes, closing-packets, is-started}
-use Rattle.broadcast.specs.Receiver.{Call, start, hear, collect, heard-by, heard-of, kept, Next, a-packet, a-fault, nothing, fault-next, next, is-some, Standing, standing, refusal, collects, accepted, Follows, Succession, Faultless}
+use Rattle.broadcast.specs.Calls.{Answer, done, Event, calls-of, check, answered, bytes, closing-packets, is-started}
+use Rattle.broadcast.specs.Receiver.{Call, start, hear, collect, heard-by, heard-of, kept, a-packet, a-fault, fault-next, next, is-some, Standing, standing, refusal, collects, accepted, Follows, Succession, Faultless}
 use Rattle.broadcast.specs.Steps.{state-after}
 use Rattle.broadcast.specs.ReceiverSteps.{idle, step}
-use Rattle.broadcast.specs.Claims.{settings, packets, cells, all-packets, heard, collected, something-waits, hear-answer, Receivers-recover}
+use Rattle.broadcast.specs.Claims.{settings, packets, cells, all-packets, heard, collected, hear-answer, Receivers-recover}
 use Rattle.broadcast.proofs.Packets.{Packet, bytes-append, closing-are-packets}
 use Rattle.broadcast.proofs.Going.{succession-front, known}
 use Rattle.broadcast.proofs.Broadcasts.{Whole, whole, all-are}

@@ -1,4 +1,5 @@
 pub mod Going
+pub mod Deciding
 pub mod Packets
 pub mod LineRuns
 pub mod Broadcasts

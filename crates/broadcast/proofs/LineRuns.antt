@@ -3,7 +3,7 @@
 use mathlib.Core.Path.{_≡_, refl, sym, ap, subst, _∙_}
 use mathlib.Core.List.{List, [], _∷_, _++_}
 use mathlib.Core.Bool.{Bool, true, false, not, _||_, cond}
-use Prim.Native.Nat.{ℕ, _+_, _%_, _<_}
+use Prim.Native.Nat.{ℕ, _+_, _%_}
 use native.Mathlib.Nat.{zero-mod, mod-add-mod}
 use native.Mathlib.Omega.{arith}
 use lib.Dec.{eqb}
@@ -27,10 +27,11 @@ use Rattle.settings.specs.Codes.{settings-read}
 use Rattle.settings.specs.SuperFrame.{super-frame-packets}
 use Rattle.tps.specs.Block.{block, refused as tps-refused}
 use Rattle.tps.specs.Laws.{Identifier}
-use Rattle.broadcast.specs.Calls.{Answer, Event, done, answered, buffered, bytes, closing-packets, unfit-pile, unfit-for, meant}
+use Rattle.broadcast.specs.Calls.{Event, done, bytes, closing-packets, unfit-pile, meant}
 use Rattle.broadcast.specs.Line.{Call, start, packet, cells, close, tps, settings-by, packets-by, cells-by, closes-by, settings-of, packets-of, cells-of, closed-by, frame-of, room, written, Typed, Standing, standing, refusal, accepted, passed, left, Follows}
-use Rattle.broadcast.specs.Steps.{Outcome, refuse, unless, event}
-use Rattle.broadcast.specs.LineSteps.{Line, idle, opened, closing, started, starting, packet-checks, close-checks, step}
+use Rattle.broadcast.specs.Steps.{Outcome, refuse, unless, starting, event}
+use Rattle.broadcast.specs.LineSteps.{Line, idle, opened, closing, started, packet-checks, close-checks, step}
+use Rattle.broadcast.proofs.Deciding.{Decided, decided, start-decided}
 use Rattle.broadcast.proofs.Packets.{Packet, Fit, check-none, fit-since, read-identifier, bytes-append, bytes-push}
 use Rattle.broadcast.proofs.Going.{Answering}
 
@@ -149,10 +150,10 @@ module _ (M : Model) (m : Rule M) where
     checked c None l buffer o r f = f refl
 
     start-leads : (c : Codes) (v : Result Settings Refusal) → settings-read c ≡ v → Identifier (c .identifier) → Reached M idle ss ps ys b
-        → Leads (start c) (starting M v)
+        → Leads (start c) (starting M idle (started M) v)
     start-leads c (Err x) q i r = refuses (start c) (number-of x) idle [] r
     start-leads c (Ok s) q i r =
-        checked (start c) (unfit-pile M s) idle [] (started M s) r (λ e.
+        checked (start c) (unfit-pile M s) idle [] (record { answer = done; buffer = []; state = started M s }) r (λ e.
         moved M (opened s 0 (new-sending M)) (sym (ap meant q) ∙ ap (λ (w : List Settings). w ++ meant (settings-read c)) (sym (r .0)))
         (sym (r .1) ∙ sym (append-nil ps)) (sym (r .2) ∙ sym (append-nil ys)) (sym (r .3) ∙ or-false b)
         (record {
@@ -252,47 +253,28 @@ stands (closing s cs) = record { settings = s ∷ []; closed = true; begun = 0; 
 
 module _ (M : Model) where
   -- an outcome by the standing
-  record As (h : Standing) (c : Call) (o : Outcome Line) : Type 0 where
-    answers : o .answer ≡ answered (refusal M h c) (accepted h c)
-    leaves : o .buffer ≡ buffered (refusal M h c) (passed c) (left h c)
-
-  decided : (h : Standing) (c : Call) (v : Option ℕ) (l : Line) (o : Outcome Line) → refusal M h c ≡ v → o .answer ≡ accepted h c → o .buffer ≡ left h c
-      → As h c (unless v l (passed c) o)
-  decided h c (Some number) l o e a b = record {
-    answers = sym (ap (λ (v : Option ℕ). answered v (accepted h c)) e);
-    leaves = sym (ap (λ (v : Option ℕ). buffered v (passed c) (left h c)) e);
-  }
-  decided h c None l o e a b = record {
-    answers = a ∙ sym (ap (λ (v : Option ℕ). answered v (accepted h c)) e);
-    leaves = b ∙ sym (ap (λ (v : Option ℕ). buffered v (passed c) (left h c)) e);
-  }
-
-  start-stands : (c : Codes) (v : Result Settings Refusal) → settings-read c ≡ v → As (stands idle) (start c) (starting M v)
-  start-stands c (Err r) q = decided (stands idle) (start c) (Some (number-of r)) idle (started-none) (ap (unfit-for M) q) refl refl
-    where
-      started-none : Outcome Line
-      started-none = record { answer = done; buffer = []; state = idle }
-  start-stands c (Ok s) q = decided (stands idle) (start c) (unfit-pile M s) idle (started M s) (ap (unfit-for M) q) refl refl
+  abbrev As : Standing → Call → Outcome Line → Type 0
+  As h c o = Decided (refusal M h c) (accepted h c) (passed c) (left h c) o
 
   tps-stands : (l : Line) (s : Settings) (frame : ℕ) (buffer : List ℕ) → stands l .settings ≡ s ∷ []
       → As (stands l) (tps frame buffer) (unless (tps-refused frame buffer) l buffer (record { answer = done; buffer = block s frame ++ drop 67 buffer; state = l }))
   tps-stands l s frame buffer e =
-      decided (stands l) (tps frame buffer) (tps-refused frame buffer) l _
+      decided (tps-refused frame buffer) l _
       (ap (λ (ss : List Settings). refusal M (record { settings = ss; closed = false; begun = 0; waits = [] }) (tps frame buffer)) e) refl
       (ap (λ (w : List ℕ). w ++ drop 67 buffer) (sym (ap (joined (λ (x : Settings). block x frame)) e ∙ append-nil (block s frame))))
 
   step-stands : (l : Line) (c : Call) → As (stands l) c (step M l c)
-  step-stands idle (start c) = start-stands c (settings-read c) refl
+  step-stands idle (start c) = start-decided M idle (started M) (settings-read c)
   step-stands idle (packet p) = record { answers = refl; leaves = refl }
   step-stands idle (cells buffer) = record { answers = refl; leaves = refl }
   step-stands idle close = record { answers = refl; leaves = refl }
   step-stands idle (tps frame buffer) = record { answers = refl; leaves = refl }
   step-stands (opened s n side) (start c) = record { answers = refl; leaves = refl }
   step-stands (opened s n side) (packet p) =
-      decided (stands (opened s n side)) (packet p) (packet-checks (side .waits) p) (opened s n side) _ refl refl refl
+      decided (packet-checks (side .waits) p) (opened s n side) _ refl refl refl
   step-stands (opened s n side) (cells buffer) = record { answers = refl; leaves = refl }
   step-stands (opened s n side) close =
-      decided (stands (opened s n side)) close (close-checks n (side .waits)) (opened s n side) _ refl refl refl
+      decided (close-checks n (side .waits)) (opened s n side) _ refl refl refl
   step-stands (opened s n side) (tps frame buffer) = tps-stands (opened s n side) s frame buffer refl
   step-stands (closing s cs) (start c) = record { answers = refl; leaves = refl }
   step-stands (closing s cs) (packet p) = record { answers = refl; leaves = refl }

@@ -12,7 +12,7 @@ use Rattle.std.specs.declared.option.Option.{Option}
 use Rattle.std.specs.declared.option.Option.the-variants.{Some, None}
 use Rattle.std.specs.declared.result.Result.{Result}
 use Rattle.std.specs.declared.result.Result.the-variants.{Ok, Err}
-use Rattle.std.proofs.shelf.Tests.{ltb-true, ltb-false, not-false}
+use Rattle.std.proofs.shelf.Tests.{ltb-true, ltb-false}
 use Rattle.std.proofs.shelf.Lists.{append-nil, append-assoc, length-take-le, drop-at, joined-more}
 use Rattle.std.proofs.shelf.Elements.{all-push}
 use Rattle.refusal.specs.declared.Refusal.{Refusal}
@@ -21,13 +21,14 @@ use Rattle.settings.specs.declared.codes.Codes.{Codes}
 use Rattle.settings.specs.declared.Settings.{Settings}
 use Rattle.stage.specs.declared.Fault.{Fault}
 use Rattle.stage.specs.Model.{Heard, Model, Receiving, ended, after-heard, told, new-receiving}
-use Rattle.stage.specs.Rule.{Under, Rule}
+use Rattle.stage.specs.Rule.{Rule}
 use Rattle.stage.proofs.Hearing.{hears-append, after-nothing-heard, after-after-heard}
 use Rattle.settings.specs.Codes.{settings-read}
-use Rattle.broadcast.specs.Calls.{Event, done, check, answered, buffered, bytes, unfit-pile, unfit-for, meant}
+use Rattle.broadcast.specs.Calls.{Event, done, check, bytes, unfit-pile, meant}
 use Rattle.broadcast.specs.Receiver.{Call, start, hear, collect, settings-by, heard-by, packets-by, settings-of, heard-of, packets-of, kept, Next, a-packet, a-fault, nothing, fault-next, next, is-some, Standing, standing, refusal, collects, accepted, passed, fills, left, Follows}
-use Rattle.broadcast.specs.Steps.{Outcome, refuse, unless, event}
-use Rattle.broadcast.specs.ReceiverSteps.{Receiver, idle, tuned, started, starting, hear-checks, handed, handing, step}
+use Rattle.broadcast.specs.Steps.{Outcome, refuse, unless, starting, event}
+use Rattle.broadcast.specs.ReceiverSteps.{Receiver, idle, tuned, started, hear-checks, handed, handing, step}
+use Rattle.broadcast.proofs.Deciding.{Decided, decided, start-decided}
 use Rattle.broadcast.proofs.Packets.{check-none, bytes-push}
 use Rattle.broadcast.proofs.Going.{Answering}
 
@@ -139,10 +140,10 @@ module _ (M : Model) (m : Rule M) where
     checked c (Some number) r buffer o t f = refuses c number r buffer t
     checked c None r buffer o t f = f refl
 
-    start-leads : (c : Codes) (v : Result Settings Refusal) → settings-read c ≡ v → Reached M idle ss hs gs → Leads (start c) (starting M v)
+    start-leads : (c : Codes) (v : Result Settings Refusal) → settings-read c ≡ v → Reached M idle ss hs gs → Leads (start c) (starting M idle (started M) v)
     start-leads c (Err x) q t = refuses (start c) (number-of x) idle [] t
     start-leads c (Ok s) q t =
-        checked (start c) (unfit-pile M s) idle [] (started M s) t (λ e.
+        checked (start c) (unfit-pile M s) idle [] (record { answer = done; buffer = []; state = started M s }) t (λ e.
         moved M (tuned s (new-receiving M)) (sym (ap meant q) ∙ ap (λ (w : List Settings). w ++ meant (settings-read c)) (sym (t .0)))
         (sym (t .1) ∙ sym (append-nil hs)) (sym (t .2) ∙ sym (append-nil gs)) (refl, tells-new))
 
@@ -190,25 +191,8 @@ stands (tuned s side) = record { settings = s ∷ []; ready = next (side .waits)
 
 module _ (M : Model) where
   -- an outcome by the standing
-  record As (h : Standing) (c : Call) (o : Outcome Receiver) : Type 0 where
-    answers : o .answer ≡ answered (refusal M h c) (accepted h c)
-    leaves : o .buffer ≡ buffered (refusal M h c) (passed c) (left h c)
-
-  decided : (h : Standing) (c : Call) (v : Option ℕ) (r : Receiver) (o : Outcome Receiver) → refusal M h c ≡ v → o .answer ≡ accepted h c → o .buffer ≡ left h c
-      → As h c (unless v r (passed c) o)
-  decided h c (Some number) r o e a b = record {
-    answers = sym (ap (λ (v : Option ℕ). answered v (accepted h c)) e);
-    leaves = sym (ap (λ (v : Option ℕ). buffered v (passed c) (left h c)) e);
-  }
-  decided h c None r o e a b = record {
-    answers = a ∙ sym (ap (λ (v : Option ℕ). answered v (accepted h c)) e);
-    leaves = b ∙ sym (ap (λ (v : Option ℕ). buffered v (passed c) (left h c)) e);
-  }
-
-  start-stands : (c : Codes) (v : Result Settings Refusal) → settings-read c ≡ v → As (stands idle) (start c) (starting M v)
-  start-stands c (Err r) q =
-      decided (stands idle) (start c) (Some (number-of r)) idle (record { answer = done; buffer = []; state = idle }) (ap (unfit-for M) q) refl refl
-  start-stands c (Ok s) q = decided (stands idle) (start c) (unfit-pile M s) idle (started M s) (ap (unfit-for M) q) refl refl
+  abbrev As : Standing → Call → Outcome Receiver → Type 0
+  As h c o = Decided (refusal M h c) (accepted h c) (passed c) (left h c) o
 
   handing-answer : (n : Next) (s : Settings) (side : Receiving) (buffer : List ℕ) → handing n s side buffer .answer ≡ collects n
   handing-answer (a-packet p) s side buffer = refl
@@ -221,13 +205,13 @@ module _ (M : Model) where
   handing-buffer nothing s side buffer = refl
 
   step-stands : (r : Receiver) (c : Call) → As (stands r) c (step M r c)
-  step-stands idle (start c) = start-stands c (settings-read c) refl
+  step-stands idle (start c) = start-decided M idle (started M) (settings-read c)
   step-stands idle (hear u) = record { answers = refl; leaves = refl }
   step-stands idle (collect buffer) = record { answers = refl; leaves = refl }
   step-stands (tuned s side) (start c) = record { answers = refl; leaves = refl }
-  step-stands (tuned s side) (hear u) = decided (stands (tuned s side)) (hear u) (hear-checks M side u) (tuned s side) _ refl refl refl
+  step-stands (tuned s side) (hear u) = decided (hear-checks M side u) (tuned s side) _ refl refl refl
   step-stands (tuned s side) (collect buffer) =
-      decided (stands (tuned s side)) (collect buffer) (refusal M (stands (tuned s side)) (collect buffer)) (tuned s side)
+      decided (refusal M (stands (tuned s side)) (collect buffer)) (tuned s side)
       (handing (next (side .waits)) s side buffer) refl
       (handing-answer (next (side .waits)) s side buffer) (handing-buffer (next (side .waits)) s side buffer)
 

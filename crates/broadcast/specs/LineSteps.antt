@@ -6,17 +6,13 @@ use lib.Dec.{eqb}
 use lib.ListN.{length, getD, take, drop}
 use Rattle.std.specs.declared.option.Option.{Option}
 use Rattle.std.specs.declared.option.Option.the-variants.{None}
-use Rattle.std.specs.declared.result.Result.{Result}
-use Rattle.std.specs.declared.result.Result.the-variants.{Ok, Err}
-use Rattle.refusal.specs.declared.Refusal.{Refusal}
-use Rattle.refusal.specs.Numbers.{number-of}
 use Rattle.settings.specs.declared.Settings.{Settings}
 use Rattle.stage.specs.Model.{Model, Sending, fed, new-sending, some}
 use Rattle.settings.specs.Codes.{settings-read}
 use Rattle.settings.specs.SuperFrame.{super-frame-packets}
 use Rattle.tps.specs.Block.{block, refused as tps-refused}
-use Rattle.broadcast.specs.Calls.{Event, done, counted, check, bytes, closing-packets, unfit-pile}
-use Rattle.broadcast.specs.Steps.{Outcome, refuse, unless, event, run, Went}
+use Rattle.broadcast.specs.Calls.{Event, done, counted, check, bytes, closing-packets}
+use Rattle.broadcast.specs.Steps.{Outcome, refuse, unless, starting, event, run, Went}
 use Rattle.broadcast.specs.Line.{Call, start, packet, cells, close, tps, room, written, Follows}
 
 -- A line by its phase: idle; open, with the settings, how many packets of a super-frame begun were accepted, and the pile's sending side as the line has
@@ -26,12 +22,9 @@ pub data Line : Type 0 where
   opened : Settings → ℕ → Sending → Line
   closing : Settings → List ℕ → Line
 
-abbrev pub started : Model → Settings → Outcome Line
-started M s = record { answer = done; buffer = []; state = opened s 0 (new-sending M) }
-
-abbrev pub starting : Model → Result Settings Refusal → Outcome Line
-starting M (Err r) = refuse (number-of r) idle []
-starting M (Ok s) = unless (unfit-pile M s) idle [] (started M s)
+-- as a start leaves it
+abbrev pub started : Model → Settings → Line
+started M s = opened s 0 (new-sending M)
 
 abbrev pub packet-checks : List ℕ → List ℕ → Option ℕ
 packet-checks waits p =
@@ -54,7 +47,7 @@ signalled s frame buffer l =
     unless (tps-refused frame buffer) l buffer (record { answer = done; buffer = block s frame ++ drop 67 buffer; state = l })
 
 abbrev pub step : Model → Line → Call → Outcome Line
-step M idle (start c) = starting M (settings-read c)
+step M idle (start c) = starting M idle (started M) (settings-read c)
 step M idle (packet p) = refuse 30 idle p
 step M idle (cells buffer) = refuse 30 idle buffer
 step M idle close = refuse 30 idle []

@@ -6,15 +6,11 @@ use lib.Dec.{ltb, eqb}
 use lib.ListN.{length, drop}
 use Rattle.std.specs.declared.option.Option.{Option}
 use Rattle.std.specs.declared.option.Option.the-variants.{None}
-use Rattle.std.specs.declared.result.Result.{Result}
-use Rattle.std.specs.declared.result.Result.the-variants.{Ok, Err}
-use Rattle.refusal.specs.declared.Refusal.{Refusal}
-use Rattle.refusal.specs.Numbers.{number-of}
 use Rattle.settings.specs.declared.Settings.{Settings}
 use Rattle.stage.specs.Model.{Model, Receiving, told, new-receiving}
 use Rattle.settings.specs.Codes.{settings-read}
-use Rattle.broadcast.specs.Calls.{Event, failed, done, counted, check, unfit-pile}
-use Rattle.broadcast.specs.Steps.{Outcome, refuse, unless, event, run, Went}
+use Rattle.broadcast.specs.Calls.{Event, failed, done, counted, check}
+use Rattle.broadcast.specs.Steps.{Outcome, refuse, unless, starting, event, run, Went}
 use Rattle.broadcast.specs.Receiver.{Call, start, hear, collect, Next, a-packet, a-fault, nothing, next, is-some, Follows}
 
 -- A receiver by its phase: idle; started, with the settings and the pile's receiving side as the receiver has fed it, in which the bytes that were not
@@ -23,12 +19,9 @@ pub data Receiver : Type 0 where
   idle : Receiver
   tuned : Settings → Receiving → Receiver
 
-abbrev pub started : Model → Settings → Outcome Receiver
-started M s = record { answer = done; buffer = []; state = tuned s (new-receiving M) }
-
-abbrev pub starting : Model → Result Settings Refusal → Outcome Receiver
-starting M (Err r) = refuse (number-of r) idle []
-starting M (Ok s) = unless (unfit-pile M s) idle [] (started M s)
+-- as a start leaves it
+abbrev pub started : Model → Settings → Receiver
+started M s = tuned s (new-receiving M)
 
 abbrev pub hear-checks : Model → Receiving → ℕ → Option ℕ
 hear-checks M side u =
@@ -49,7 +42,7 @@ handing (a-fault f) s side buffer = record { answer = failed f; buffer = buffer;
 handing nothing s side buffer = record { answer = counted 0; buffer = buffer; state = tuned s side }
 
 abbrev pub step : Model → Receiver → Call → Outcome Receiver
-step M idle (start c) = starting M (settings-read c)
+step M idle (start c) = starting M idle (started M) (settings-read c)
 step M idle (hear u) = refuse 30 idle []
 step M idle (collect buffer) = refuse 30 idle buffer
 step M (tuned s side) (start c) = refuse 35 (tuned s side) []

@@ -4,7 +4,13 @@ use mathlib.Core.List.{List, [], _∷_}
 use Prim.Native.Nat.{ℕ}
 use Rattle.std.specs.declared.option.Option.{Option}
 use Rattle.std.specs.declared.option.Option.the-variants.{Some, None}
-use Rattle.broadcast.specs.Calls.{Answer, refused, Event, calls-of, Succession-by}
+use Rattle.std.specs.declared.result.Result.{Result}
+use Rattle.std.specs.declared.result.Result.the-variants.{Ok, Err}
+use Rattle.refusal.specs.declared.Refusal.{Refusal}
+use Rattle.refusal.specs.Numbers.{number-of}
+use Rattle.settings.specs.declared.Settings.{Settings}
+use Rattle.stage.specs.Model.{Model}
+use Rattle.broadcast.specs.Calls.{Answer, refused, done, Event, calls-of, Succession-by, unfit-pile}
 
 -- What a call answers, what its buffer then holds, and the state after it.
 pub record Outcome (S : Type 0) : Type 0 where
@@ -20,6 +26,11 @@ refuse number s buffer = record { answer = refused number; buffer = buffer; stat
 abbrev pub unless : {S : Type 0} → Option ℕ → S → List ℕ → Outcome S → Outcome S
 unless (Some number) s buffer o = refuse number s buffer
 unless None s buffer o = o
+
+-- A start where the machine is idle, by what its codes mean: `new` is the state for the settings.
+abbrev pub starting : {S : Type 0} → Model → S → (Settings → S) → Result Settings Refusal → Outcome S
+starting M idle new (Err r) = refuse (number-of r) idle []
+starting M idle new (Ok s) = unless (unfit-pile M s) idle [] (record { answer = done; buffer = []; state = new s })
 
 abbrev pub event : {S C : Type 0} → C → Outcome S → Event C
 event c o = record { call = c; answer = o .answer; buffer = o .buffer }

@@ -1,7 +1,7 @@
 // Broadcasts over any pile: what a line's cells are, when two broadcasts are equal, and what a receiver gets back.
 //
 // The statements are in specs/Claims.antt. They speak of successions of calls (specs/Line.antt, specs/Receiver.antt), in which each
-// call answers by what was accepted before it. Each function here carries one of them as its contract, and nothing runs.
+// call answers by what was accepted before it. Each function here but `fit` carries one of them as its contract, and nothing runs.
 ghost use mathlib.Core.Path.{_≡_};
 ghost use Prim.Native.Nat.{_≤_};
 ghost use Rattle.std.specs.Vec.{made};

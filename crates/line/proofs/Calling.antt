@@ -20,10 +20,11 @@ use Rattle.settings.specs.SuperFrame.{super-frame-packets}
 use Rattle.stage.specs.Model.{Model, Sending, fed, some, new-sending}
 use Rattle.stage.specs.Rule.{Sends}
 use Rattle.stage.proofs.Feeding.{fed-fed}
-use Rattle.broadcast.specs.Calls.{refused, done, check, bytes, closing-packets, unfit, unfit-for, unfit-pile}
+use Rattle.broadcast.specs.Calls.{done, check, bytes, closing-packets, unfit, unfit-for, unfit-pile}
 use Rattle.broadcast.specs.Steps.{Outcome, unless}
 use Rattle.broadcast.specs.Line as calls
 use Rattle.broadcast.specs.LineSteps as steps
+use Rattle.broadcast.proofs.Deciding.{start-accepted, start-refused}
 use Rattle.broadcast.proofs.Packets.{fit-since}
 use Rattle.line.specs.declared.frame.Frame.{Frame}
 use Rattle.line.specs.declared.phase.Phase.{Phase}
@@ -117,20 +118,13 @@ module _ (M : Model) where
       let bytes-taken = eq-eqb n 256 (k ∙ fit-since M s fits .takes-bytes) in
       ap (λ b. outcome done [] (seen (phase-of b Open) f′ side′)) bytes-taken
       ∙ (λ i. outcome done [] (steps.opened (t i) (z i) (e i)))
-      ∙ sym (accepted (unfit-pile M s) _ [] _ fits)
-      ∙ sym (ap (steps.starting M) r)
+      ∙ start-accepted M steps.idle (steps.started M) (settings-read c) s r u
       ∙ sym (ap (λ q. steps.step M (seen q f side) (calls.start c)) (takes-start q a))
 
   -- a start that is refused by its codes or its pile
-  pub start-refused : (c : Codes) (v : Result Settings Refusal) (r : Refusal) (q : Phase) (f : Frame) (side : Sending) → admitted q Start ≡ Ok tt
-      → settings-read c ≡ v → Some (number-of r) ≡ unfit-for M v
+  pub start-refuses : (c : Codes) (r : Refusal) (q : Phase) (f : Frame) (side : Sending) → admitted q Start ≡ Ok tt → Some (number-of r) ≡ unfit M c
       → outcome (done-by (Err r)) [] (seen q f side) ≡ steps.step M (seen q f side) (calls.start c)
-  start-refused c v r q f side a e u =
+  start-refuses c r q f side a u =
       ap (λ q. outcome (done-by (Err r)) [] (seen q f side)) (takes-start q a)
-      ∙ go v u
-      ∙ sym (ap (steps.starting M) e)
+      ∙ start-refused M steps.idle (steps.started M) (settings-read c) r u
       ∙ sym (ap (λ q. steps.step M (seen q f side) (calls.start c)) (takes-start q a))
-    where
-      go : (v : Result Settings Refusal) → Some (number-of r) ≡ unfit-for M v → outcome (done-by (Err r)) [] steps.idle ≡ steps.starting M v
-      go (Err x) u = let n : number-of r ≡ number-of x = cc in (λ i. outcome (refused (n i)) [] steps.idle)
-      go (Ok s) u = ap (λ v. unless v steps.idle [] (steps.started M s)) u

@@ -7,7 +7,7 @@ ghost use mathlib.Core.List.{[]};
 ghost use lib.Dec.{eqb};
 ghost use lib.ListN.{take};
 ghost use Rattle.tps.specs.Laws.{Identifier};
-ghost use Rattle.stage.specs.Model.{fed, some};
+ghost use Rattle.stage.specs.Model.{fed, some, new-sending};
 ghost use Rattle.broadcast.specs.Calls.{bytes, closing-packets};
 ghost use Rattle.broadcast.specs.Line.{room, written, start as start-call, packet as packet-call, cells as cells-call, close as close-call, tps as tps-call};
 ghost use Rattle.broadcast.specs.LineSteps.{idle as idle-line, Gone-through};
@@ -74,6 +74,16 @@ fn fill<P: Stage>(pile: &mut P, pending: &mut Pending, buffer: &mut [u8]) -> usi
     count
 }
 
+// The pile is new, and nothing is pending.
+fn clear<P: Stage>(pile: &mut P, pending: &mut Pending)
+    ensures fixed { λ _. ⌜ P·Stage .model (now (pile .exit)) ≡ P·Stage .model (now (pile .entry)) ⌝ }
+    ensures sends { λ _. ⌜ P·Stage .sending (now (pile .exit)) ≡ new-sending (P·Stage .model (now (pile .entry))) ⌝ }
+    ensures none { λ _. ⌜ bytes-of (now (pending .exit)) ≡ [] ⌝ }
+{
+    pile.renew();
+    *pending = Pending::none();
+}
+
 // A super-frame of null packets is pending in place of what is left.
 fn set_closing(frame: &Frame, pending: &mut Pending)
     ensures { λ _. ⌜ bytes-of (now (pending .exit)) ≡ bytes (closing-packets (now (frame .entry) .settings)) ⌝ }
@@ -81,7 +91,7 @@ fn set_closing(frame: &Frame, pending: &mut Pending)
     pending.set_nulls(frame.packets);
 }
 
-// An identifier is a number of 16 bits.
+// An identifier is a number of 16 bits, which the proof learns where one is read.
 fn identified(codes: &Codes)
     ensures { λ _. ⌜ Identifier (now (codes .entry) .identifier) ⌝ }
 {
@@ -110,19 +120,20 @@ impl<P: Stage> Line<P> {
         }
     }
 
+    // start
     fn begin(&mut self, codes: &Codes) -> Result<(), Refusal>
         ensures fixed { λ _. ⌜ P·Stage .model (now (self .exit) .pile) ≡ P·Stage .model (now (self .entry) .pile) ⌝ }
         ensures does { λ r. ⌜ Does (P·Stage .model) (P·Stage .sending) (now (self .entry)) (now (self .exit)) (start-call (now (codes .entry))) (done-by r) [] ⌝ }
     {
         self.admit(Call::Start)?;
         let settings = fit(&self.pile, codes)?;
-        self.pile.renew();
+        clear(&mut self.pile, &mut self.pending);
         self.phase = Phase::Open;
         self.frame = Frame::new(settings);
-        self.pending = Pending::none();
         Ok(())
     }
 
+    // packet
     fn accept(&mut self, packet: &[u8]) -> Result<(), Refusal>
         ensures fixed { λ _. ⌜ P·Stage .model (now (self .exit) .pile) ≡ P·Stage .model (now (self .entry) .pile) ⌝ }
         ensures does { λ r. ⌜ Does (P·Stage .model) (P·Stage .sending) (now (self .entry)) (now (self .exit)) (packet-call (now (packet .entry))) (done-by r) (now (packet .entry)) ⌝ }
@@ -145,6 +156,7 @@ impl<P: Stage> Line<P> {
         Ok(())
     }
 
+    // cells
     fn write(&mut self, buffer: &mut [u8]) -> Result<usize, Refusal>
         ensures fixed { λ _. ⌜ P·Stage .model (now (self .exit) .pile) ≡ P·Stage .model (now (self .entry) .pile) ⌝ }
         ensures does { λ r. ⌜ Does (P·Stage .model) (P·Stage .sending) (now (self .entry)) (now (self .exit)) (cells-call (now (buffer .entry))) (counted-by r) (now (buffer .exit)) ⌝ }
@@ -153,6 +165,7 @@ impl<P: Stage> Line<P> {
         Ok(fill(&mut self.pile, &mut self.pending, buffer))
     }
 
+    // close
     fn finish(&mut self) -> Result<(), Refusal>
         ensures fixed { λ _. ⌜ P·Stage .model (now (self .exit) .pile) ≡ P·Stage .model (now (self .entry) .pile) ⌝ }
         ensures does { λ r. ⌜ Does (P·Stage .model) (P·Stage .sending) (now (self .entry)) (now (self .exit)) close-call (done-by r) [] ⌝ }
@@ -169,6 +182,7 @@ impl<P: Stage> Line<P> {
         Ok(())
     }
 
+    // tps
     fn signal(&self, frame: u8, buffer: &mut [u8]) -> Result<(), Refusal>
         ensures { λ r. ⌜ Does (P·Stage .model) (P·Stage .sending) (now (self .entry)) (now (self .entry)) (tps-call frame (now (buffer .entry))) (done-by r) (now (buffer .exit)) ⌝ }
     {

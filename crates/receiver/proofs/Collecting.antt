@@ -9,7 +9,6 @@ use lib.ListN.{length, getD, take, length-append}
 use Rattle.std.specs.Options.{isSome}
 use Rattle.std.specs.declared.option.Option.{Option}
 use Rattle.std.specs.declared.option.Option.the-variants.{Some, None}
-use Rattle.std.specs.declared.result.Result.{Result}
 use Rattle.std.specs.declared.result.Result.the-variants.{Ok, Err}
 use Rattle.std.proofs.shelf.Lists.{append-nil, take-at, drop-at, getD-append-left}
 use Rattle.std.proofs.shelf.Tests.{lt-ltb, le-ltb, eq-eqb}
@@ -21,12 +20,13 @@ use Rattle.refusal.specs.Numbers.{number-of}
 use Rattle.settings.specs.declared.codes.Codes.{Codes}
 use Rattle.settings.specs.declared.Settings.{Settings}
 use Rattle.settings.specs.Codes.{settings-read}
-use Rattle.broadcast.specs.Calls.{refused, failed, done, counted, check, unfit, unfit-for}
+use Rattle.broadcast.specs.Calls.{refused, failed, done, counted, check, unfit}
 use Rattle.broadcast.specs.Steps.{unless}
 use Rattle.broadcast.specs.Receiver as calls
 use Rattle.broadcast.specs.Receiver.{next, is-some, fault-next, a-packet, a-fault}
 use Rattle.broadcast.specs.ReceiverSteps as steps
 use Rattle.broadcast.specs.ReceiverSteps.{handing, handed}
+use Rattle.broadcast.proofs.Deciding.{start-accepted, start-refused}
 use Rattle.receiver.specs.View.{held, found, none-or, tuned-by, outcome, done-by}
 use Rattle.receiver.proofs.Gathering.{not-ok}
 
@@ -134,22 +134,16 @@ module _ (M : Model) (c : Codes) (o : Option Settings) (none : isSome o ≡ fals
       go None e = refl
       go (Some s) e = let z : _≡_ {A = ℕ} 0 1 = cc in absurd (omega arith)
 
-  pub start-refused : (v : Result Settings Refusal) (r : Refusal) (side : Receiving) → settings-read c ≡ v → Some (number-of r) ≡ unfit-for M v
+  pub start-refuses : (r : Refusal) (side : Receiving) → Some (number-of r) ≡ unfit M c
       → outcome (done-by (Err r)) [] (tuned-by o side) ≡ steps.step M (tuned-by o side) (calls.start c)
-  start-refused v r side e u =
+  start-refuses r side u =
       ap (outcome (done-by (Err r)) []) (idle-at side)
-      ∙ go v u
-      ∙ sym (ap (steps.starting M) e)
+      ∙ start-refused M steps.idle (steps.started M) (settings-read c) r u
       ∙ sym (ap (λ l. steps.step M l (calls.start c)) (idle-at side))
-    where
-      go : (v : Result Settings Refusal) → Some (number-of r) ≡ unfit-for M v → outcome (done-by (Err r)) [] steps.idle ≡ steps.starting M v
-      go (Err x) u = let n : number-of r ≡ number-of x = cc in (λ i. outcome (refused (n i)) [] steps.idle)
-      go (Ok s) u = ap (λ v. unless v steps.idle [] (steps.started M s)) u
 
   pub start-does : (s : Settings) (side side′ : Receiving) → settings-read c ≡ Ok s → unfit M c ≡ None → side′ ≡ new-receiving M
       → outcome done [] (tuned-by (Some s) side′) ≡ steps.step M (tuned-by o side) (calls.start c)
   start-does s side side′ r u e =
       ap (λ x. outcome done [] (steps.tuned s x)) e
-      ∙ sym (ap (λ v. unless v steps.idle [] (steps.started M s)) (sym (ap (unfit-for M) r) ∙ u))
-      ∙ sym (ap (steps.starting M) r)
+      ∙ start-accepted M steps.idle (steps.started M) (settings-read c) s r u
       ∙ sym (ap (λ l. steps.step M l (calls.start c)) (idle-at side))

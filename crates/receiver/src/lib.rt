@@ -6,7 +6,7 @@ ghost use mathlib.Core.Path.{_≡_};
 ghost use mathlib.Core.Bool.{true, false};
 ghost use mathlib.Core.List.{[]};
 ghost use Rattle.std.specs.declared.result.Result.the-variants.{Ok};
-ghost use Rattle.stage.specs.Model.{silence};
+ghost use Rattle.stage.specs.Model.{silence, new-receiving};
 ghost use Rattle.broadcast.specs.Receiver.{next, is-some, start as start-call, hear as hear-call, collect as collect-call};
 ghost use Rattle.broadcast.specs.ReceiverSteps.{idle as idle-receiver, Gone-through};
 ghost use Rattle.broadcast.specs.Claims.{Holds-over};
@@ -66,8 +66,19 @@ fn waits<P: Stage>(pile: &mut P, gathered: &mut Gathered) -> bool
     }
 }
 
+// The pile is new, and nothing is gathered.
+fn clear<P: Stage>(pile: &mut P, gathered: &mut Gathered)
+    ensures fixed { λ _. ⌜ P·Stage .model (now (pile .exit)) ≡ P·Stage .model (now (pile .entry)) ⌝ }
+    ensures hears { λ _. ⌜ P·Stage .receiving (now (pile .exit)) ≡ new-receiving (P·Stage .model (now (pile .entry))) ⌝ }
+    ensures none { λ _. ⌜ units-of (now (gathered .exit)) ≡ [] ⌝ }
+{
+    pile.renew();
+    *gathered = Gathered::none();
+}
+
 // What each call does.
 impl<P: Stage> Receiver<P> {
+    // start
     fn begin(&mut self, codes: &Codes) -> Result<(), Refusal>
         ensures fixed { λ _. ⌜ P·Stage .model (now (self .exit) .pile) ≡ P·Stage .model (now (self .entry) .pile) ⌝ }
         ensures does { λ r. ⌜ Does (P·Stage .model) (P·Stage .receiving) (now (self .entry)) (now (self .exit)) (start-call (now (codes .entry))) (done-by r) [] ⌝ }
@@ -76,12 +87,12 @@ impl<P: Stage> Receiver<P> {
             return Err(Refusal::Started);
         }
         let settings = fit(&self.pile, codes)?;
-        self.pile.renew();
+        clear(&mut self.pile, &mut self.gathered);
         self.settings = Some(settings);
-        self.gathered = Gathered::none();
         Ok(())
     }
 
+    // hear
     fn accept(&mut self, cell: u8) -> Result<(), Refusal>
         ensures fixed { λ _. ⌜ P·Stage .model (now (self .exit) .pile) ≡ P·Stage .model (now (self .entry) .pile) ⌝ }
         ensures does { λ r. ⌜ Does (P·Stage .model) (P·Stage .receiving) (now (self .entry)) (now (self .exit)) (hear-call cell) (done-by r) [] ⌝ }
@@ -99,6 +110,7 @@ impl<P: Stage> Receiver<P> {
         Ok(())
     }
 
+    // collect
     fn hand_out(&mut self, buffer: &mut [u8]) -> Result<usize, Missed>
         ensures fixed { λ _. ⌜ P·Stage .model (now (self .exit) .pile) ≡ P·Stage .model (now (self .entry) .pile) ⌝ }
         ensures does { λ r. ⌜ Does (P·Stage .model) (P·Stage .receiving) (now (self .entry)) (now (self .exit)) (collect-call (now (buffer .entry))) (collected-by r) (now (buffer .exit)) ⌝ }

@@ -4,10 +4,9 @@ use Rattle.std.specs.declared.result.Result.the-variants.{Err}
 use Rattle.std.proofs.shelf.Results.{err-from-errBy}
 use Rattle.refusal.specs.declared.Refusal.{Refusal}
 use Rattle.refusal.specs.Numbers.{refused-by}
-use Rattle.settings.specs.Codes.{settings-read}
 use Rattle.stage.specs.Model.{Receiving}
 use Rattle.receiver.specs.View.{done-by, outcome, units-of, held, tuned-by}
-use Rattle.receiver.proofs.Collecting.{start-does, start-refused}
+use Rattle.receiver.proofs.Collecting.{start-does, start-refuses}
 use Rattle.receiver.proofs.Receiver.begin.Needs as need
 
 pub returns : need.returns
@@ -16,12 +15,12 @@ returns g c =
     let r = c .args .self .now in
     let side : Receiving = held (units-of (r .gathered)) (p .receiving (r .pile)) in
     record {
-      fixed = c .renew .ensures .fixed;
+      fixed = c .clear .ensures .fixed;
       does = start-does (p .model (r .pile)) (c .args .codes .now) (r .settings) (sym (c .is-some .ensures) ∙ c .if-is-some .left)
-          (c .in-Continue-settings .settings) side (held (units-of (c .none-self .result)) (p .receiving (c .renew .last .self)))
+          (c .in-Continue-settings .settings) side (held (units-of (c .clear .last .gathered)) (p .receiving (c .clear .last .pile)))
           (c .in-Continue-settings .ensures tt .settings)
           (sym (c .fit .ensures .checks) ∙ ap refused-by (c .in-Continue-settings .was tt))
-          (ap (λ us. held us (p .receiving (c .renew .last .self))) (c .none-self .ensures) ∙ c .renew .ensures .hears);
+          (ap (λ us. held us (p .receiving (c .clear .last .pile))) (c .clear .ensures .none) ∙ c .clear .ensures .hears);
     }
 
 pub returns-in-Break-settings : need.returns-in-Break-settings
@@ -35,6 +34,6 @@ returns-in-Break-settings g c =
     record {
       fixed = refl;
       does = ap (λ x. outcome (done-by x) [] (tuned-by (r .settings) side)) is
-          ∙ start-refused (p .model (r .pile)) (c .args .codes .now) (r .settings) (sym (c .is-some .ensures) ∙ c .if-is-some .left)
-          (settings-read (c .args .codes .now)) why side refl (sym (ap refused-by (c .in-Break-settings .was tt)) ∙ c .fit .ensures .checks);
+          ∙ start-refuses (p .model (r .pile)) (c .args .codes .now) (r .settings) (sym (c .is-some .ensures) ∙ c .if-is-some .left)
+          why side (sym (ap refused-by (c .in-Break-settings .was tt)) ∙ c .fit .ensures .checks);
     }
