@@ -1,0 +1,10 @@
+pub mod Going
+pub mod Deciding
+pub mod Packets
+pub mod LineRuns
+pub mod Broadcasts
+pub mod Equal
+pub mod ReceiverRuns
+pub mod Heard
+pub mod Exists
+pub mod All

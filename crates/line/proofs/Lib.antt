@@ -1,0 +1,4 @@
+mod Pumping
+mod Pulling
+mod Filling
+mod Calling
