@@ -1,0 +1,4 @@
+pub mod Job
+pub mod Verdict
+pub mod Files
+pub mod Text
