@@ -9,7 +9,6 @@ mod jobs;
 mod perform;
 mod sending;
 mod sink;
-mod standard_pile;
 mod stop;
 mod text;
 

@@ -2,8 +2,6 @@
 use super::files;
 use super::job::Job;
 use super::jobs;
-use super::standard_pile::StandardPile;
-use super::standard_pile::standard;
 use super::stop::Stop;
 use super::stop::StopFromAllocError;
 use dispersal::energy_dispersal::EnergyDispersalStage;
@@ -17,6 +15,8 @@ use outer::serializer::SerializerStage;
 use pile::rule::PileStage;
 use receiver::Receiver;
 use settings::Settings;
+use standard::StandardPile;
+use standard::standard;
 
 fn line_of(settings: &Settings) -> Line<StandardPile> {
     Line::new(standard(settings))
