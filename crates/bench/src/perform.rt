@@ -12,7 +12,7 @@ use line::Line;
 use outer::outer_coder::OuterCoderStage;
 use outer::outer_interleaver::OuterInterleaverStage;
 use outer::serializer::SerializerStage;
-use pile::rule::PileStage;
+use pile::PileStage;
 use receiver::Receiver;
 use settings::Settings;
 use standard::StandardPile;

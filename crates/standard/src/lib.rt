@@ -17,7 +17,7 @@ use outer::outer_coder::OuterCoderStage;
 use outer::outer_interleaver::OuterInterleaverStage;
 use outer::serializer::SerializerStage;
 use pile::Pile;
-use pile::rule::PileStage;
+use pile::PileStage;
 use settings::Settings;
 
 pub type Words = Pile<BitInterleaver, SymbolInterleaver>;
