@@ -16,8 +16,8 @@ use Rattle.stage.specs.Rule.{Rule}
 use Rattle.stage.proofs.PilingRule.{piled-rule}
 use Rattle.dispersal.proofs.Restoring.{dispersal-rule}
 use Rattle.outer.proofs.Protecting as protecting
-use Rattle.outer.proofs.Restoring.{interleaver-rule}
-use Rattle.outer.proofs.Serial.{serializer-rule}
+use Rattle.outer.proofs.Interleaving.{interleaver-rule}
+use Rattle.outer.proofs.Serializing.{serializer-rule}
 use Rattle.inner_coder.proofs.Coding as coding
 use Rattle.inner_interleaver.proofs.BitBlocks.{bit-rule}
 use Rattle.inner_interleaver.proofs.Symbols.{symbol-rule}

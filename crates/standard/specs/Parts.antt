@@ -11,9 +11,9 @@ use mathlib.Core.Path.{_≡_}
 use Rattle.stage.specs.Model.{Model, Sending, Receiving, new-sending, new-receiving}
 use Rattle.stage.specs.Piled.{piled, piled-sending, piled-receiving}
 use Rattle.dispersal.specs.EnergyDispersal as dispersal
-use Rattle.outer.specs.Coder as coder
-use Rattle.outer.specs.Interleaver as interleaver
-use Rattle.outer.specs.Serial as serial
+use Rattle.outer.specs.OuterCoder as coder
+use Rattle.outer.specs.OuterInterleaver as interleaver
+use Rattle.outer.specs.Serializer as serial
 use Rattle.inner_coder.specs.Coder as inner
 use Rattle.inner_interleaver.specs.BitInterleaver as bits
 use Rattle.inner_interleaver.specs.SymbolInterleaver as symbols

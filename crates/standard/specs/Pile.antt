@@ -13,9 +13,9 @@ use Rattle.stage.specs.Model.{Model}
 use Rattle.stage.specs.Rule.{Rule}
 use Rattle.stage.specs.Piled.{piled}
 use Rattle.dispersal.specs.EnergyDispersal.{energy-dispersal}
-use Rattle.outer.specs.Coder.{outer-coder}
-use Rattle.outer.specs.Interleaver.{outer-interleaver}
-use Rattle.outer.specs.Serial.{serializer}
+use Rattle.outer.specs.OuterCoder.{outer-coder}
+use Rattle.outer.specs.OuterInterleaver.{outer-interleaver}
+use Rattle.outer.specs.Serializer.{serializer}
 use Rattle.inner_coder.specs.Coder.{inner-code}
 use Rattle.inner_interleaver.specs.BitInterleaver.{bit-interleaving}
 use Rattle.inner_interleaver.specs.SymbolInterleaver.{symbol-interleaving}

@@ -1,5 +1,5 @@
 use mathlib.Core.Path.{refl}
-use Rattle.outer.specs.Interleaver.{outer-interleaver}
+use Rattle.outer.specs.OuterInterleaver.{outer-interleaver}
 use Rattle.standard.specs.Parts.{delaying, serialized}
 use Rattle.standard.proofs.Making.{new-over}
 use Rattle.standard.proofs.make_delayed.Needs as need

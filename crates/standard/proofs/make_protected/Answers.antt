@@ -1,5 +1,5 @@
 use mathlib.Core.Path.{refl}
-use Rattle.outer.specs.Coder.{outer-coder}
+use Rattle.outer.specs.OuterCoder.{outer-coder}
 use Rattle.standard.specs.Parts.{protecting, delayed}
 use Rattle.standard.proofs.Making.{new-over}
 use Rattle.standard.proofs.make_protected.Needs as need

@@ -1,5 +1,5 @@
 use mathlib.Core.Path.{refl}
-use Rattle.outer.specs.Serial.{serializer}
+use Rattle.outer.specs.Serializer.{serializer}
 use Rattle.standard.specs.Parts.{serializing, coded}
 use Rattle.standard.proofs.Making.{new-over}
 use Rattle.standard.proofs.make_serialized.Needs as need
