@@ -84,4 +84,5 @@ def main():
     print("table C.1:", annex_c(), "rows agree")
 
 
-main()
+if __name__ == "__main__":
+    main()
