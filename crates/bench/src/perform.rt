@@ -1,4 +1,4 @@
-// Each job with its operands, over the standard pile.
+// Each job with its operands. The standard pile is named in one function, `broadcast`: what is done over it is written for any pile.
 use super::files;
 use super::job::Job;
 use super::jobs;
@@ -15,34 +15,65 @@ use outer::serializer::SerializerStage;
 use pile::PileStage;
 use receiver::Receiver;
 use settings::Settings;
-use standard::StandardPile;
+use stage::Stage;
 use standard::standard;
 
-fn line_of(settings: &Settings) -> Line<StandardPile> {
-    Line::new(standard(settings))
+// The files that a broadcast goes from and to.
+#[derive(Drop)]
+enum Route<'a> {
+    Send { packets: &'a str, cells: &'a str },
+    Receive { cells: &'a str, packets: &'a str },
+    Loop { packets: &'a str },
 }
 
-fn receiver_of(settings: &Settings) -> Receiver<StandardPile> {
-    Receiver::new(standard(settings))
+fn over<P: Stage + Drop>(
+    rt: &LibcRuntime,
+    settings: &Settings,
+    route: Route,
+    sending: P,
+    receiving: P,
+) -> Result<(), Stop> {
+    match route {
+        Route::Send { packets, cells } => {
+            let mut line = Line::new(sending);
+            jobs::send(rt, settings, &mut line, packets, cells)
+        }
+        Route::Receive { cells, packets } => {
+            jobs::receive(rt, settings, Receiver::new(receiving), cells, packets)
+        }
+        Route::Loop { packets } => {
+            let mut line = Line::new(sending);
+            jobs::return_trip(rt, settings, &mut line, Receiver::new(receiving), packets)
+        }
+    }
+}
+
+fn broadcast(rt: &LibcRuntime, record: &str, route: Route) -> Result<(), Stop> {
+    let settings = files::settings(rt, record)?;
+    over(
+        rt,
+        &settings,
+        route,
+        standard(&settings),
+        standard(&settings),
+    )
 }
 
 pub fn perform(rt: &LibcRuntime, job: Job, operands: &[String]) -> Result<(), Stop> {
     match (job, operands) {
         (Job::Send, [record, packets, cells]) => {
-            let settings = files::settings(rt, record.as_str())?;
-            let mut line = line_of(&settings);
-            jobs::send(rt, &settings, &mut line, packets.as_str(), cells.as_str())
+            let packets = packets.as_str();
+            let cells = cells.as_str();
+            broadcast(rt, record.as_str(), Route::Send { packets, cells })
         }
         (Job::Receive, [record, cells, packets]) => {
-            let settings = files::settings(rt, record.as_str())?;
-            let receiver = receiver_of(&settings);
-            jobs::receive(rt, &settings, receiver, cells.as_str(), packets.as_str())
+            let packets = packets.as_str();
+            let cells = cells.as_str();
+            broadcast(rt, record.as_str(), Route::Receive { cells, packets })
         }
         (Job::Loop, [record, packets]) => {
-            let settings = files::settings(rt, record.as_str())?;
-            let mut line = line_of(&settings);
-            let receiver = receiver_of(&settings);
-            jobs::return_trip(rt, &settings, &mut line, receiver, packets.as_str())
+            let packets = packets.as_str();
+            broadcast(rt, record.as_str(), Route::Loop { packets })
         }
         (Job::Tps, [record]) => {
             let settings = files::settings(rt, record.as_str())?;
