@@ -38,7 +38,7 @@ pub struct Comparison<R> {
 }
 
 impl<R: Read> Comparison<R> {
-    pub fn new(original: R, sent: u64) -> Comparison<R> {
+    pub(crate) fn new(original: R, sent: u64) -> Comparison<R> {
         Comparison {
             original,
             sent,
@@ -47,7 +47,7 @@ impl<R: Read> Comparison<R> {
         }
     }
 
-    pub fn verdict(&self) -> Verdict
+    pub(crate) fn verdict(&self) -> Verdict
         ensures { λ r. ⌜ r ≡ verdict-of (now (self .entry) .sent) (now (self .entry) .returned) (now (self .entry) .changed) ⌝ }
     {
         judge(self.sent, self.returned, self.changed)

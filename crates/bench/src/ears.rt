@@ -20,7 +20,7 @@ pub struct Ears<P, S> {
 
 impl<P: Stage, S: Sink> Ears<P, S> {
     // Of a receiver that is started.
-    pub fn new(receiver: Receiver<P>, sink: S) -> Ears<P, S> {
+    pub(crate) fn new(receiver: Receiver<P>, sink: S) -> Ears<P, S> {
         Ears {
             receiver,
             sink,
@@ -31,7 +31,7 @@ impl<P: Stage, S: Sink> Ears<P, S> {
     }
 
     // Collects until nothing more waits.
-    pub fn collect(&mut self) -> io::Result<()> {
+    pub(crate) fn collect(&mut self) -> io::Result<()> {
         let mut packet = [0; 188];
         for _ in 0..u64::MAX {
             match self.receiver.collect(&mut packet) {

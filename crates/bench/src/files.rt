@@ -12,7 +12,7 @@ use std::io::BufReader;
 use std::io::BufWriter;
 use std::io::Read;
 
-pub fn open(rt: &LibcRuntime, path: &str, what: &str) -> Result<BufReader<File>, Stop> {
+pub(crate) fn open(rt: &LibcRuntime, path: &str, what: &str) -> Result<BufReader<File>, Stop> {
     match File::open(rt, path) {
         Ok(file) => Ok(BufReader::new(file)),
         Err(error) => {
@@ -22,7 +22,7 @@ pub fn open(rt: &LibcRuntime, path: &str, what: &str) -> Result<BufReader<File>,
     }
 }
 
-pub fn create(rt: &LibcRuntime, path: &str) -> Result<BufWriter<File>, Stop> {
+pub(crate) fn create(rt: &LibcRuntime, path: &str) -> Result<BufWriter<File>, Stop> {
     match File::create(rt, path) {
         Ok(file) => Ok(BufWriter::new(file)),
         Err(error) => {
@@ -36,7 +36,7 @@ pub fn create(rt: &LibcRuntime, path: &str) -> Result<BufWriter<File>, Stop> {
 }
 
 // One byte more than a record has is read, so that a longer file is seen to be none.
-pub fn settings(rt: &LibcRuntime, path: &str) -> Result<Settings, Stop> {
+pub(crate) fn settings(rt: &LibcRuntime, path: &str) -> Result<Settings, Stop> {
     let file = open(rt, path, "a settings record of 10 bytes")?;
     let mut record = Vec::new(rt.alloc());
     file.take(11).read_to_end(&mut record)?;
@@ -54,7 +54,7 @@ fn whole_packets(length: u64, super_frame: u32) -> Option<u64>
 }
 
 // How many packets a file has.
-pub fn packets(rt: &LibcRuntime, path: &str, settings: &Settings) -> Result<u64, Stop> {
+pub(crate) fn packets(rt: &LibcRuntime, path: &str, settings: &Settings) -> Result<u64, Stop> {
     let length = fs::metadata(rt, path)?.len();
     let super_frame = settings.packets();
     match whole_packets(length, super_frame) {

@@ -15,7 +15,7 @@ pub enum Job {
 }
 
 impl Job {
-    pub fn named(word: &str) -> Option<Job>
+    pub(crate) fn named(word: &str) -> Option<Job>
         ensures sound { λ r. ⌜ BySome r (Unit {0}) (λ job. now (word .entry) ≡ name-of job) ⌝ }
         ensures whole { λ r. ⌜ ((job : Job) → now (word .entry) ≡ name-of job → r ≡ Some job) ⌝ }
     {
@@ -29,7 +29,7 @@ impl Job {
         }
     }
 
-    pub fn usage(self) -> &'static str {
+    pub(crate) fn usage(self) -> &'static str {
         match self {
             Job::Send => "send RECORD PACKETS CELLS",
             Job::Receive => "receive RECORD CELLS PACKETS",

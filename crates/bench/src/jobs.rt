@@ -29,7 +29,7 @@ const PACKETS: &str = "a file of packets, 188 bytes each";
 
 const CELLS: &str = "a file of cells, one byte each";
 
-pub fn send<P: Stage>(
+pub(crate) fn send<P: Stage>(
     rt: &LibcRuntime,
     settings: &Settings,
     line: &mut Line<P>,
@@ -81,7 +81,7 @@ fn tell_missed(rt: &LibcRuntime, missed: Option<Missed>) -> Result<(), Stop> {
     Ok(())
 }
 
-pub fn receive<P: Stage + Drop>(
+pub(crate) fn receive<P: Stage + Drop>(
     rt: &LibcRuntime,
     settings: &Settings,
     mut receiver: Receiver<P>,
@@ -98,7 +98,7 @@ pub fn receive<P: Stage + Drop>(
     tell_missed(rt, ears.missed)
 }
 
-pub fn return_trip<P: Stage + Drop>(
+pub(crate) fn return_trip<P: Stage + Drop>(
     rt: &LibcRuntime,
     settings: &Settings,
     line: &mut Line<P>,
@@ -122,7 +122,7 @@ pub fn return_trip<P: Stage + Drop>(
     Ok(())
 }
 
-pub fn tps(rt: &LibcRuntime, settings: &Settings) -> Result<(), Stop> {
+pub(crate) fn tps(rt: &LibcRuntime, settings: &Settings) -> Result<(), Stop> {
     let mut block = [0; 67];
     for frame in 1..5u8 {
         write_block(settings, frame, &mut block)?;
@@ -147,7 +147,7 @@ fn number(rt: &LibcRuntime, word: &str) -> Result<u8, Stop> {
     }
 }
 
-pub fn chart(rt: &LibcRuntime, mode: &str, parity: &str) -> Result<(), Stop> {
+pub(crate) fn chart(rt: &LibcRuntime, mode: &str, parity: &str) -> Result<(), Stop> {
     let code = number(rt, mode)?;
     let parity = number(rt, parity)?;
     let mut marks = [Mark {

@@ -59,7 +59,7 @@ fn broadcast(rt: &LibcRuntime, record: &str, route: Route) -> Result<(), Stop> {
     )
 }
 
-pub fn perform(rt: &LibcRuntime, job: Job, operands: &[String]) -> Result<(), Stop> {
+pub(crate) fn perform(rt: &LibcRuntime, job: Job, operands: &[String]) -> Result<(), Stop> {
     match (job, operands) {
         (Job::Send, [record, packets, cells]) => {
             let packets = packets.as_str();

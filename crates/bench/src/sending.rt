@@ -23,7 +23,7 @@ fn drain<P: Stage, S: Sink>(line: &mut Line<P>, sink: &mut S) -> Result<u64, Sto
 }
 
 // Over a line that is started; answers the number of cells.
-pub fn send<P: Stage, R: Read, S: Sink>(
+pub(crate) fn send<P: Stage, R: Read, S: Sink>(
     rt: &impl Eprint,
     line: &mut Line<P>,
     packets: u64,

@@ -17,7 +17,12 @@ bench tps RECORD                    the signalling blocks of frames 1 to 4\n\
 bench chart MODE PARITY             where the symbol interleaver puts each word (mode 0 2K, 1 8K; parity 0 even, 1 odd)\n\
 RECORD is a settings record of 10 bytes, PACKETS have 188 bytes each, CELLS one byte each\n";
 
-pub fn sent(heap: Global, packets: u64, closing: u32, cells: u64) -> Result<String, AllocError>
+pub(crate) fn sent(
+    heap: Global,
+    packets: u64,
+    closing: u32,
+    cells: u64,
+) -> Result<String, AllocError>
     ensures { λ r. ⌜ made r (λ text. string-bytes text ≡ sent-text packets closing cells) ⌝ }
 {
     format!(
@@ -26,26 +31,31 @@ pub fn sent(heap: Global, packets: u64, closing: u32, cells: u64) -> Result<Stri
     )
 }
 
-pub fn received(heap: Global, cells: u64, packets: u64) -> Result<String, AllocError>
+pub(crate) fn received(heap: Global, cells: u64, packets: u64) -> Result<String, AllocError>
     ensures { λ r. ⌜ made r (λ text. string-bytes text ≡ received-text cells packets) ⌝ }
 {
     format!(heap, "cells {cells}\npackets {packets}\n")
 }
 
-pub fn returned(heap: Global, packets: u64, cells: u64, back: u64) -> Result<String, AllocError>
+pub(crate) fn returned(
+    heap: Global,
+    packets: u64,
+    cells: u64,
+    back: u64,
+) -> Result<String, AllocError>
     ensures { λ r. ⌜ made r (λ text. string-bytes text ≡ returned-text packets cells back) ⌝ }
 {
     format!(heap, "packets {packets}\ncells {cells}\nreturned {back}\n")
 }
 
-pub fn refused(heap: Global, refusal: Refusal) -> Result<String, AllocError>
+pub(crate) fn refused(heap: Global, refusal: Refusal) -> Result<String, AllocError>
     ensures { λ r. ⌜ made r (λ text. string-bytes text ≡ refused-text refusal) ⌝ }
 {
     let number = refusal.number();
     format!(heap, "refused {number}\n")
 }
 
-pub fn fault(heap: Global, found: Fault) -> Result<String, AllocError>
+pub(crate) fn fault(heap: Global, found: Fault) -> Result<String, AllocError>
     ensures { λ r. ⌜ made r (λ text. string-bytes text ≡ fault-text found) ⌝ }
 {
     let stage = found.stage;
@@ -53,7 +63,7 @@ pub fn fault(heap: Global, found: Fault) -> Result<String, AllocError>
     format!(heap, "fault {stage} {cause}\n")
 }
 
-pub fn verdict(heap: Global, found: Verdict) -> Result<String, AllocError>
+pub(crate) fn verdict(heap: Global, found: Verdict) -> Result<String, AllocError>
     ensures { λ r. ⌜ made r (λ text. string-bytes text ≡ verdict-text found) ⌝ }
 {
     match found {
