@@ -1,6 +1,9 @@
 // The tool of calibration benches and network crews: broadcasts in files, signalling blocks and charts.
 //
 // A refusal is printed and ends well. What keeps a job from being done is told on standard error.
+
+#![tactic(auto)]
+
 mod comparison;
 mod ears;
 mod files;

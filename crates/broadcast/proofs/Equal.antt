@@ -128,7 +128,7 @@ broadcasts_tell_packets blocks_tell r q k l h j same = (tells, gives)
         ap (λ (x : Settings). length (packets q) % super_frame_packets x) t ∙ v.whole_frames
         in (
           u,
-          cells_tell r.over k.rule w.set w.took.fit (packets r) (packets q) w.took.are_packets v.took.are_packets w.whole-frames frames
+          cells_tell r.over k.rule w.set w.took.fit (packets r) (packets q) w.took.are_packets v.took.are_packets w.whole_frames frames
               (sym w.gave ∙ ap (λ (x : Broadcast). x.cells) e ∙ c),
         )
 

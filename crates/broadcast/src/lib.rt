@@ -2,6 +2,9 @@
 //
 // The statements are in specs/Claims.antt. They speak of successions of calls (specs/Line.antt, specs/Receiver.antt), in which each
 // call answers by what was accepted before it. Each function here but `fit` carries one of them as its contract, and nothing runs.
+
+#![tactic(auto)]
+
 ghost use Rattle.std.specs.Prelude.{◌≡◌, ◌≤◌, IfOk, Ok};
 ghost use Rattle.refusal.specs.Numbers.{refused_by};
 ghost use Rattle.settings.specs.Codes.{settings_read};

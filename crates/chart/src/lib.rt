@@ -1,5 +1,8 @@
 // The chart of the symbol interleaver (EN 300 744, clause 4.3.4.2): where each word of a symbol goes.
 // In: codes of the mode and the parity, and a buffer. Out: its first N marks, by the place after the interleaver.
+
+#![tactic(auto)]
+
 ghost use Rattle.std.specs.Prelude.{◌≡◌, ℕ, ◌<◌, ◌≤◌, length, Ok};
 ghost use Rattle.refusal.specs.Numbers.{refused_by};
 ghost use Rattle.chart.specs.Chart.{mark, mark_at, unmoved, checked, buffer_after};

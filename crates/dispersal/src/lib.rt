@@ -1,4 +1,7 @@
 // Energy dispersal (EN 300 744, clause 4.3.1): bytes in groups of eight packets are combined with the outputs of a register.
+
+#![tactic(auto)]
+
 ghost use Rattle.dispersal.specs.EnergyDispersal.{SendsDispersed};
 
 pub mod energy_dispersal;

@@ -1,5 +1,8 @@
 // The inner coder (EN 300 744, clause 4.3.3): a convolutional code of rate 1/2 with 64 states, punctured to one of five rates.
 // Input: bits. Output: bits, one or two for each.
+
+#![tactic(auto)]
+
 ghost use Rattle.inner_coder.specs.Published.{SendsPublished};
 
 pub mod coder;

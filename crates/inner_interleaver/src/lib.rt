@@ -1,4 +1,7 @@
 // Inner interleaving (EN 300 744, clause 4.3.4): bits are interleaved into words of v bits, and words into symbols.
+
+#![tactic(auto)]
+
 ghost use Rattle.inner_interleaver.specs.Published.{BitsPublished, SymbolsPublished};
 
 use settings::{Constellation, Mode};

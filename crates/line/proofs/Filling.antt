@@ -67,12 +67,12 @@ filled_by M W W' out out' n d =
     let g = d.gives in
     let us = g.units in
     let whole : W.waits ≡ us ++ W'.waits = ap (λ s. s.waits) g.side in
-    let front : take n W.waits ≡ us = ap (take n) whole ∙ take_at us W'.waits n g.made-is in
+    let front : take n W.waits ≡ us = ap (take n) whole ∙ take_at us W'.waits n g.made_is in
     let long = ap length whole ∙ length-append us W'.waits in (
       elim (cases_lt n (length out)) [
-        | inl l ↦ omega (arith, long, g.made-is, ap length (d.all_that_fit l))
-        | inr l ↦ omega (arith, long, g.made-is, g.room)
+        | inl l ↦ omega (arith, long, g.made_is, ap length (d.all_that_fit l))
+        | inr l ↦ omega (arith, long, g.made_is, g.room)
       ],
-      g.buffer ∙ ap₂ (λ a k. a ++ drop k out) (sym front) (sym (ap length front ∙ g.made-is)),
-      λ i. record { waits = sym (ap (drop n) whole ∙ drop_at us W'.waits n g.made-is) i; future = (ap (λ s. s.future) (sym g.side)) i },
+      g.buffer ∙ ap₂ (λ a k. a ++ drop k out) (sym front) (sym (ap length front ∙ g.made_is)),
+      λ i. record { waits = sym (ap (drop n) whole ∙ drop_at us W'.waits n g.made_is) i; future = (ap (λ s. s.future) (sym g.side)) i },
     )

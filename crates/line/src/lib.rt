@@ -2,6 +2,9 @@
 //
 // A call is refused, and leaves all as it was, or does what the step of its phase says (`step` in broadcast's specs/LineSteps.antt).
 // A packet's bytes are pending until the pile is handed them, which is when a call asks for cells or whether any wait.
+
+#![tactic(auto)]
+
 ghost use Rattle.std.specs.Prelude.{◌≡◌, [], ◌==◌};
 ghost use Rattle.tps.specs.Laws.{Identifier};
 ghost use Rattle.stage.specs.Model.{new_sending};

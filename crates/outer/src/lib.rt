@@ -1,4 +1,7 @@
 // The outer stages (EN 300 744, clause 4.3.2): outer coder, outer interleaver, and the serializer that hands bits on.
+
+#![tactic(auto)]
+
 ghost use Rattle.std.specs.Prelude.{◌≡◌, [], ◌∷◌};
 ghost use Rattle.outer.specs.Delays.{Leaves};
 ghost use Rattle.outer.specs.Protection.{SendsCodewords, HearsCodewords};

@@ -1,5 +1,8 @@
 // The permuting rule of the symbol interleaver (EN 300 744, clause 4.3.4.2), between two lent slices, for elements of every kind.
 // In: the words of a symbol and its parity. Out: an even symbol has word q at H(q), and an odd one word H(q) at q.
+
+#![tactic(auto)]
+
 ghost use Rattle.std.specs.Prelude.{◌≡◌};
 ghost use Rattle.address.specs.Address.{addresses_of};
 ghost use Rattle.refusal.specs.Numbers.{refused_by};

@@ -3,6 +3,9 @@
 // The parts are any stages, so nothing ties the state of one to that of the other: each call settles first, which is to say
 // that it moves the units that wait in one part on to the other as far as they go. Neither side of the pile alters by that.
 // Units go down by a queue, many at once.
+
+#![tactic(auto)]
+
 ghost use Rattle.std.specs.Prelude.{◌≡◌, false};
 ghost use Rattle.stage.specs.Model.{new_sending, new_receiving};
 ghost use Rattle.stage.specs.Piled.{fits, piled, piled_sending, piled_receiving};

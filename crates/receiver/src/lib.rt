@@ -2,6 +2,9 @@
 //
 // A call is refused, and leaves all as it was, or does what the step of its phase says (`step` in broadcast's
 // specs/ReceiverSteps.antt). What waits in the pile is gathered when a call asks for a packet or whether something waits.
+
+#![tactic(auto)]
+
 ghost use Rattle.std.specs.Prelude.{◌≡◌, ◌<◌, true, false, [], Ok, nat_lt};
 ghost use Rattle.stage.specs.Model.{silence, new_receiving, answer, heard, some_heard};
 ghost use Rattle.broadcast.specs.Receiver.{next, is_some, start as start-call, hear as hear-call, collect as collect-call};

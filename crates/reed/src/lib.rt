@@ -1,4 +1,7 @@
 // The outer code (EN 300 744, clause 4.3.2): Reed–Solomon (204,188), sixteen parity bytes after every 188.
+
+#![tactic(auto)]
+
 ghost use Rattle.reed.specs.Code.{CodeHolds};
 
 pub mod packet;

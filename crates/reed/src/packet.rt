@@ -27,5 +27,5 @@ pub fn is_codeword(block: &[u8]) -> bool
     if block.len() != 204 {
         return false;
     }
-    Parity::of(&block[..188]).bytes() == &block[188..]
+    Parity::of(&block[..188]).bytes().as_slice() == &block[188..]
 }

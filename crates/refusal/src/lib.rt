@@ -1,4 +1,7 @@
 // Why a call says no: one list of refusals for every call, each with its number. A refused call leaves all as it was.
+
+#![tactic(auto)]
+
 ghost use Rattle.std.specs.Prelude.{◌≡◌};
 ghost use Rattle.refusal.specs.Numbers.{number_of};
 

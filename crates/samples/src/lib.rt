@@ -1,4 +1,7 @@
 // Samples for comparison: settings, packets that a second implementation makes alike, digests, what EN 300 744 prints, and how a check is told.
+
+#![tactic(auto)]
+
 pub mod annex_c;
 pub mod digest;
 pub mod expected;

@@ -21,7 +21,7 @@ fn is_next(generator: &mut Generator, packet: &[u8]) -> bool
     ensures onward { generator.new.state ≡ after 187 generator.old.state }
 {
     let made = generator.packet();
-    packet == &made
+    packet == made.as_slice()
 }
 
 impl Returns {

@@ -1,4 +1,7 @@
 // The settings of a broadcast (EN 300 744, clause 4.6.2): five numbers at the edge, named values inside.
+
+#![tactic(auto)]
+
 pub mod codes;
 pub mod constellation;
 pub mod guard;

@@ -1,4 +1,7 @@
 // Prints the sheet of the settings record on standard input, or `refused` and the refusal's number.
+
+#![tactic(auto)]
+
 mod report;
 mod sheet;
 #[cfg(test)]

@@ -229,8 +229,8 @@ module _ {K : Type 0} (turn : K → K) {B C t g : ℕ} {encode decode : K → Li
       hold_most = capped-most formula;
       sends_grow = blocks_sends turn encode B k [];
       hears_grow = blocks_hears turn decode C k [];
-      sends_under = λ xs u. blocks_under turn encode B t g c.sends-under k [] xs c.some_in tt u;
-      hears_under = λ ys u. blocks_under turn decode C g t c.hears-under k [] ys c.some_out tt u;
+      sends_under = λ xs u. blocks_under turn encode B t g c.sends_under k [] xs c.some_in tt u;
+      hears_under = λ ys u. blocks_under turn decode C g t c.hears_under k [] ys c.some_out tt u;
       faults_numbered = λ ys. no_fault (Numbered 1);
       law = back;
     }

@@ -41,7 +41,7 @@ module _ (M : Model) where
   pub gives_of : {s₀ s₁ s s' : Sending} {out out' : List ℕ} {n : ℕ} → s₁ ≡ s₀ → s ≡ s' → Gives M s₀ s out out' n → Gives M s₁ s' out out' n
   gives_of {s₀} {s₁} {s} {s'} p q g = record {
     units = g.units;
-    made_is = g.made-is;
+    made_is = g.made_is;
     room = g.room;
     side = p ∙ g.side ∙ ap (ahead g.units) q;
     buffer = g.buffer;
@@ -55,11 +55,11 @@ module _ (M : Model) where
       let us = g.units in
       record {
         units = us ++ v ∷ [];
-        made_is = omega (arith, length-append us (v ∷ []), g.made-is);
+        made_is = omega (arith, length-append us (v ∷ []), g.made_is);
         room = omega arith;
         side = g.side ∙ ap (ahead us) (sent-ahead s v e) ∙ ahead-ahead us (v ∷ []) (sent s) ∙ ap (ahead (us ++ v ∷ [])) (sym q);
         buffer = ap (λ o. set o n v) (g.buffer ∙ ap (λ r. us ++ r) (drop_more out₀ n 0 h))
-            ∙ set_at us (get_or out₀ n 0) (drop (n + 1) out₀) v n g.made-is
+            ∙ set_at us (get_or out₀ n 0) (drop (n + 1) out₀) v n g.made_is
             ∙ sym (append_assoc us (v ∷ []) (drop (n + 1) out₀));
         below = All-push (λ x. x < M.given) us v g.below below;
       }
@@ -68,7 +68,7 @@ module _ (M : Model) where
   pub gives_fed : {s s' : Sending} {out out' : List ℕ} {n : ℕ} (xs : List ℕ) → Gives M s s' out out' n → Gives M (fed s xs) (fed s' xs) out out' n
   gives_fed {s} {s'} xs g = record {
     units = g.units;
-    made_is = g.made-is;
+    made_is = g.made_is;
     room = g.room;
     side = ap (λ t. fed t xs) g.side ∙ fed-ahead g.units s' xs;
     buffer = g.buffer;
@@ -80,20 +80,20 @@ module _ (M : Model) where
     rest_is : take (length out₁ - m) (drop m out₁) ≡ drop m out
     rest_is =
         let us = g.units in
-        between_to_end out₁ m (length out₁) (omega arith) ∙ ap (drop m) g.buffer ∙ drop_at us (drop m out) m g.made-is
+        between_to_end out₁ m (length out₁) (omega arith) ∙ ap (drop m) g.buffer ∙ drop_at us (drop m out) m g.made_is
 
     pub gives_then : {N : Model} {s₂ : Sending} {rest : List ℕ} {n : ℕ} → N.given ≡ M.given
         → Gives N s₁ s₂ (take (length out₁ - m) (drop m out₁)) rest n → Gives M s s₂ out (put_mid m (length out₁ - m) out₁ rest) (m + n)
     gives_then {N} {s₂} {rest} {n} same k =
         let us = g.units in
         let vs = k.units in
-        let front : take m out₁ ≡ us = ap (take m) g.buffer ∙ take_at us (drop m out) m g.made-is in
+        let front : take m out₁ ≡ us = ap (take m) g.buffer ∙ take_at us (drop m out) m g.made_is in
         let none : drop (length out₁ - m) (drop m out₁) ≡ [] = drop_all (length out₁ - m) (drop m out₁) (omega (arith, length-drop m out₁)) in
         let tail : drop n (take (length out₁ - m) (drop m out₁)) ≡ drop (m + n) out = ap (drop n) rest_is ∙ drop-drop n m out in
         let fits : n ≤ length (drop m out) = subst (λ w. n ≤ length w) rest_is k.room in
         record {
           units = us ++ vs;
-          made_is = omega (arith, length-append us vs, g.made-is, k.made_is);
+          made_is = omega (arith, length-append us vs, g.made_is, k.made_is);
           room = omega (arith, g.room, fits, length-drop m out);
           side = g.side ∙ ap (ahead us) k.side ∙ ahead-ahead us vs s₂;
           buffer = ap₂ ◌++◌ front (ap₂ ◌++◌ (k.buffer ∙ ap (λ r. vs ++ r) tail) none ∙ append-nil (vs ++ drop (m + n) out)) ∙ sym (append_assoc us vs (drop (m + n) out));
@@ -198,5 +198,5 @@ none_passes M s input out grow idle none = record {
 pub only_settled : {M : Model} {s s' : Sending} {out' : List ℕ} {p : Passed} → Sends s.future → Passes M s s' [] [] out' p → s' ≡ s
 only_settled {M} {s} {s'} {p = p} grow r =
     let g = (drained_by M p grow r).gives in
-    let none : g.units ≡ [] = nil_from_length g.units (omega (arith, g.made-is, g.room)) in
+    let none : g.units ≡ [] = nil_from_length g.units (omega (arith, g.made_is, g.room)) in
     sym (ap (λ us. ahead us s') none) ∙ sym g.side

@@ -59,7 +59,7 @@ gives_down M k u l {l'} q used sl same fits g =
     let rest = ahead (fitting t (drop used q)) u in
     record {
       units = g.units;
-      made_is = g.made-is;
+      made_is = g.made_is;
       room = g.room;
       side = ap (λ w. joined_sending (ahead w u) l) (fitting_split t used q fits)
           ∙ handed u l sl (take used q) (fitting t (drop used q))

@@ -3,6 +3,9 @@
 // A stage has a sending side and a receiving side. Sending takes units below `taken` and gives units below `given`; receiving does
 // the reverse. A side is what waits in it and its future, which is what it will give for each list of further units
 // (`Sending`, `Receiving` in specs/Model.antt). What is fixed about a stage is its `Model`, and every model keeps the `Rule`.
+
+#![tactic(auto)]
+
 ghost use Rattle.std.specs.Prelude.{◌≡◌, nat_lt};
 ghost use Rattle.stage.specs.Model.{Model, Sending, Receiving, some, some_heard, new_sending, new_receiving, answer, offered, heard, first, sent, first_heard, collected, BelowSome, BelowOk};
 ghost use Rattle.stage.specs.Passing.{Drains, Passes};

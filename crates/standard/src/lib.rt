@@ -1,5 +1,8 @@
 // The standard pile: the seven stages of EN 300 744, clause 4.3, one over the other.
 // Input: the bytes of transport packets. Output: the cell words of interleaved symbols.
+
+#![tactic(auto)]
+
 ghost use Rattle.std.specs.Prelude.{◌≡◌};
 ghost use Rattle.standard.specs.Hold.{standard_hold};
 ghost use Rattle.standard.specs.Pile.{words_for, coded_for, serialized_for, delayed_for, protected_for, standard_model, StandardHolds};

@@ -1,4 +1,7 @@
 // The coder against what EN 300 744 prints and against a second implementation: a line for each check, and a last one with the counts.
+
+#![tactic(auto)]
+
 mod annex;
 mod broadcast;
 mod listener;

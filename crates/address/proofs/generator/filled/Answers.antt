@@ -22,8 +22,8 @@ bounds-table-q c =
     fits (row_of m) (symbol_cells m) (addresses_of m) end c.loop-i.i c.loop-i.register c.loop-i.q c.loop-i.table turn long c.loop-i.invariant.0 (omega arith) in
     omega arith
 
-pub overflow-add-q : goal.overflow-add-q
-overflow-add-q c = record { fits = omega (arith, bounds-table-q c) }
+pub overflow_add-q : goal.overflow_add-q
+overflow_add-q c = record { fits = omega (arith, bounds-table-q c) }
 
 pub loop-i-preserved : goal.loop-i-preserved
 loop-i-preserved c =
@@ -33,7 +33,7 @@ loop-i-preserved c =
     let long : length (addresses_of m) ≤ length c.loop-i.table = omega (arith, words_fit m, (addresses_permute m).size) in
     elim c.if-at-words.branch [
       | then-at-words w ↦ (
-        simp (c.next-register.ensures.is, w.table-is, w.q-is, c.address-at-at.ensures)
+        simp (c.next-register.ensures.is, w.table-is, w.q-is, c.address_at-at.ensures)
             (wrote (row_of m) (symbol_cells m) (addresses_of m) end c.loop-i.i c.loop-i.register c.loop-i.q c.loop-i.table turn long c.loop-i.invariant.0 (omega arith)),
         c.next-register.ensures.fits,
         simp (w.table-is, length-set) c.loop-i.invariant.2,

@@ -11,8 +11,8 @@ again c =
     let small : full < 65536 = simp c.wires-place-items.ensures (wired_lt c.args.mode c.args.register) in
     wired-more xs c.loop-place.place-index c.loop-place.left c.loop-place.all full c.loop-place-test.true small c.loop-place.invariant
 
-pub overflow-add-all : goal.overflow-add-all
-overflow-add-all c =
+pub overflow_add-all : goal.overflow_add-all
+overflow_add-all c =
     let small = wired_lt c.args.mode c.args.register in
     let whole = ap (λ ps. wired ps c.args.register) c.wires-place-items.ensures in
     record { fits = omega (arith, again c) }

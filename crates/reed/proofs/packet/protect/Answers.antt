@@ -6,18 +6,18 @@ use Rattle.reed.proofs.Codewords.{put_both, protected_codeword}
 use Rattle.reed.proofs.packet.protect.Goals as goal
 use Rattle.std.proofs.lemmas.List.{length-take-le}
 
-pub slice-bounds-copy-from-slice-end-2 : goal.slice-bounds-copy-from-slice-end-2
-slice-bounds-copy-from-slice-end-2 c = sym (length-take-le 188 c.args.output.now (omega arith))
+pub slice_bounds-copy_from_slice-end-2 : goal.slice_bounds-copy_from_slice-end-2
+slice_bounds-copy_from_slice-end-2 c = sym (length-take-le 188 c.args.output.now (omega arith))
 
-pub copy-from-slice-requires : goal.copy-from-slice-requires
-copy-from-slice-requires c = length-take-le 188 c.args.output.now (omega arith) ∙ sym c.if-packet-ne188.false
+pub copy_from_slice-requires : goal.copy_from_slice-requires
+copy_from_slice-requires c = length-take-le 188 c.args.output.now (omega arith) ∙ sym c.if-packet-ne188.false
 
 pub returns : goal.returns
 returns c =
     let packet = c.args.packet.now in
     let old = c.args.output.now in
-    let first = c.copy-from-slice.ensures.after in
-    let second = c.copy-from-slice-2.ensures.after ∙ c.bytes.ensures ∙ c.of.ensures in
+    let first = c.copy_from_slice.ensures.after in
+    let second = c.copy_from_slice-2.ensures.after ∙ c.bytes.ensures ∙ c.of.ensures in
     let done = ap₂ (λ (xs ys : List ℕ). put_mid 188 (length (xs ++ drop 188 old) - 188) (xs ++ drop 188 old) ys) first second ∙ put_both packet (remainder packet) old c.if-packet-ne188.false in
     record {
       answered = sym (ap₂ (λ (m n : ℕ). cond (eqb m 188 && eqb n 204) (Ok tt) (Err PacketLength)) c.if-packet-ne188.false c.if-output-ne204.false);

@@ -10,10 +10,10 @@ remainder-parity-requires c =
     let s = c.args.settings.now in
     let n = c.args.frame in
     let B = c.args.buffer.now in
-    let b0 = c.write-all.new.buffer in
+    let b0 = c.write_all.new.buffer in
     let b1 = c.write.new.buffer in
     let e1 : b1 ≡ put (field 14 0) 53 b0 = c.write.ensures ∙ ap (λ f. put f 53 b0) c.new.ensures in
-    let e0 = fields-written s n B b0 c.fields.result c.fields.ensures c.write-all.ensures in
+    let e0 = fields-written s n B b0 c.fields.result c.fields.ensures c.write_all.ensures in
     subst (All (λ b. b < 2)) (sym (spaced_front s n B b0 b1 e0 e1)) (spaced_binary s n B b0 b1 e0 e1)
 
 pub returns : goal.returns
@@ -21,10 +21,10 @@ returns c =
     let s = c.args.settings.now in
     let n = c.args.frame in
     let B = c.args.buffer.now in
-    let b0 = c.write-all.new.buffer in
+    let b0 = c.write_all.new.buffer in
     let b1 = c.write.new.buffer in
     let e1 : b1 ≡ put (field 14 0) 53 b0 = c.write.ensures ∙ ap (λ f. put f 53 b0) c.new.ensures in
-    let e0 = fields-written s n B b0 c.fields.result c.fields.ensures c.write-all.ensures in
+    let e0 = fields-written s n B b0 c.fields.result c.fields.ensures c.write_all.ensures in
     let a : refused n B ≡ None = accepted n B (omega arith) (omega arith) (omega arith) in
     record {
       answer = sym a;

@@ -12,8 +12,8 @@ write-requires c =
     let l = c.loop-field in
     omega (arith, sent-room c.args.buffer.now c.args.fields.now l.field-index l.at l.buffer c.loop-field-test.true l.invariant)
 
-pub overflow-add-at : goal.overflow-add-at
-overflow-add-at c =
+pub overflow_add-at : goal.overflow_add-at
+overflow_add-at c =
     let l = c.loop-field in
     omega (arith, sent-room c.args.buffer.now c.args.fields.now l.field-index l.at l.buffer c.loop-field-test.true l.invariant)
 
