@@ -15,6 +15,8 @@ use Rattle.inner_coder.specs.declared.convolution.Walk.{Walk}
 use Rattle.inner_coder.specs.declared.puncturing.Sent.{Sent}
 use Rattle.inner_coder.specs.declared.puncturing.Sent.TheVariants as sent
 use Rattle.inner_coder.specs.declared.puncturing.Left.{Left}
+use denote.Enum.Bare.{sameb}
+use Rattle.inner_coder.specs.contracts.puncturing.Left.{the_type}
 use Rattle.inner_coder.specs.declared.puncturing.Left.TheVariants.{Nothing, Both, X, Y}
 use Rattle.inner_coder.specs.Puncturing.{sent_at}
 use Rattle.inner_coder.specs.Convolution.{shifted, emitted, sends_one, walked}
@@ -22,16 +24,17 @@ use Rattle.inner_coder.specs.Coder.{inner_code, idle_at, units_left}
 use Rattle.inner_coder.specs.Coding.{emitted_under}
 
 -- what the test for something left tells
-pub none_left : (l : Left) (t : Bool) → cond t (l ≡ Nothing) (l ≡ Nothing → ⊥) → false ≡ not t → l ≡ Nothing
-none_left l true h e = h
-none_left l false h e = absurd (true≢false (sym e))
+pub none_left : (l : Left) → false ≡ not (sameb the_type l Nothing) → l ≡ Nothing
+none_left Nothing e = refl
+none_left Both e = absurd (true≢false (sym e))
+none_left X e = absurd (true≢false (sym e))
+none_left Y e = absurd (true≢false (sym e))
 
-pub some_left : (l : Left) (r : ℕ) (t : Bool) → cond t (l ≡ Nothing) (l ≡ Nothing → ⊥) → true ≡ not t → some (units_left l r) ≡ true
-some_left l r true h e = absurd (true≢false e)
-some_left Nothing r false h e = absurd (h refl)
-some_left Both r false h e = refl
-some_left X r false h e = refl
-some_left Y r false h e = refl
+pub some_left : (l : Left) (r : ℕ) → true ≡ not (sameb the_type l Nothing) → some (units_left l r) ≡ true
+some_left Nothing r e = absurd (true≢false e)
+some_left Both r e = refl
+some_left X r e = refl
+some_left Y r e = refl
 
 at_most_two : (what : Sent) (r : ℕ) → length (emitted what r) ≤ 2
 at_most_two sent.Both r = lit≤ tt

@@ -7,6 +7,8 @@ use Rattle.stage.specs.Model.{clean, some_heard, heard}
 use Rattle.stage.proofs.Machine.{hears_from_heard}
 use Rattle.inner_coder.specs.declared.convolution.Walk.{Walk}
 use Rattle.inner_coder.specs.declared.puncturing.Sent.{Sent}
+use denote.Enum.Bare.{sameb}
+use Rattle.inner_coder.specs.contracts.puncturing.Sent.{the_type}
 use Rattle.inner_coder.specs.declared.puncturing.Sent.TheVariants.{Both, X, Y}
 use Rattle.inner_coder.specs.Puncturing.{sent_at}
 use Rattle.inner_coder.specs.Convolution.{shifted, walked, bit_from, differ, first_of, is_both, decoded, hears_one, hearing_after}
@@ -19,13 +21,10 @@ byte_differ u v = either (eqb u v)
     either true = refl
     either false = refl
 
-pub both_is : (sent : Sent) (t : Bool) → cond t (sent ≡ Both) (sent ≡ Both → ⊥) → t ≡ is_both sent
-both_is Both true h = refl
-both_is Both false h = absurd (h refl)
-both_is X true h = let z : ◌≡◌ {A = ℕ} 0 1 = cc in absurd (omega arith)
-both_is X false h = refl
-both_is Y true h = let z : ◌≡◌ {A = ℕ} 0 1 = cc in absurd (omega arith)
-both_is Y false h = refl
+pub both_is : (sent : Sent) → sameb the_type sent Both ≡ is_both sent
+both_is Both = refl
+both_is X = refl
+both_is Y = refl
 
 -- the bit heard is the register's highest
 highest : (r b : ℕ) → r < 128 → b < 2 → shifted r b / 64 ≡ b

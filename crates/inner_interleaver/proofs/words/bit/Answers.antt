@@ -10,10 +10,10 @@ returns c =
     let p = c.args.p in
     let k = c.args.constellation in
     let ws = c.args.words.now in
-    let v = c.word-bits-width.result in
+    let v = c.word_bits-width.result in
     let l : Lane = get_or c.lanes.result.now c.dealt-round.result.1 (lane 0 0) in
     let is : l ≡ lane_at k (p % word_bits k) = ap₂ (λ ls j. get_or ls j (lane 0 0)) c.lanes.ensures c.dealt-round.ensures.place in
     and_mask (get_or ws c.around.result 0 / 2 ^ (v - 1 - l.stream)) 1
     ∙ ap (λ n. get_or ws n 0 / 2 ^ (v - 1 - l.stream) % 2) c.around.ensures
-    ∙ ap₂ (λ v l. bit_of v l c.dealt-round.result.0 ws) c.word-bits-width.ensures.value is
+    ∙ ap₂ (λ v l. bit_of v l c.dealt-round.result.0 ws) c.word_bits-width.ensures.value is
     ∙ ap (λ i. bit_of (word_bits k) (lane_at k (p % word_bits k)) i ws) c.dealt-round.ensures.round

@@ -7,7 +7,7 @@ pub returns : goal.returns
 returns g c =
     let u = g.U.Stage in
     let l = g.L.Stage in
-    let down = c.pass-down.ensures in
+    let down = c.pass_down.ensures in
     record {
       upper_fixed = down.upper_fixed;
       lower_fixed = down.lower_fixed;

@@ -9,44 +9,44 @@ pub loop-misfit-preserved : goal.loop-misfit-preserved
 loop-misfit-preserved g c =
     let u = g.U.Stage in
     let l = g.L.Stage in
-    let asked = c.receive-waits.ensures in
-    let took = c.receive-take.ensures in
-    let gave = c.receive-offer.ensures in
+    let asked = c.receive_waits.ensures in
+    let took = c.receive_take.ensures in
+    let gave = c.receive_offer.ensures in
     let inv = c.loop-misfit.invariant in
     let m = u.model c.args.upper.now in
-    let u₁ : Receiving = u.receiving c.receive-waits.new.self in
+    let u₁ : Receiving = u.receiving c.receive_waits.new.self in
     let l₀ : Receiving = l.receiving c.loop-misfit.lower in
-    let u₂ : Receiving = u.receiving c.receive-offer.new.self in
-    let l₁ : Receiving = l.receiving c.receive-take.new.self in
-    let n = (u.model c.receive-waits.new.self).given in
-    let idle : some_heard u₁.waits ≡ false = ap (λ s. some_heard s.waits) asked.side ∙ sym asked.answers ∙ c.if-not-receive-waits.true in
+    let u₂ : Receiving = u.receiving c.receive_offer.new.self in
+    let l₁ : Receiving = l.receiving c.receive_take.new.self in
+    let n = (u.model c.receive_waits.new.self).given in
+    let idle : some_heard u₁.waits ≡ false = ap (λ s. some_heard s.waits) asked.side ∙ sym asked.answers ∙ c.if-not-receive_waits.true in
     let got : first_heard l₀.waits ≡ Ok (Some c.in-Some.unit) = sym took.answers ∙ c.in-Ok.is ∙ ap Ok c.in-Some.is in
     let top : n ≡ m.given = ap (λ m. m.given) (asked.fixed ∙ inv.0) in
-    let refused : c.is-err.result ≡ is_err (answer (ltb c.in-Some.unit n) (some_heard u₁.waits)) = c.is-err.ensures.value ∙ ap is_err gave.answers in (
+    let refused : c.is_err.result ≡ is_err (answer (ltb c.in-Some.unit n) (some_heard u₁.waits)) = c.is_err.ensures.value ∙ ap is_err gave.answers in (
       gave.fixed ∙ asked.fixed ∙ inv.0,
       took.fixed ∙ inv.1,
       gave.other ∙ asked.other ∙ inv.2,
       took.other ∙ inv.3,
-      moved_up m u₁ l₀ l₁ c.in-Some.unit (g.met.U.Stage.hears c.receive-waits.new.self) idle got took.side
-          u₂ c.is-err.result n top refused gave.side
+      moved_up m u₁ l₀ l₁ c.in-Some.unit (g.met.U.Stage.hears c.receive_waits.new.self) idle got took.side
+          u₂ c.is_err.result n top refused gave.side
           ∙ ap₂ (λ b s. joined_receiving b m s l₀) (sym c.loop-misfit-test.true) asked.side
           ∙ inv.4,
     )
 
-pub returns-in-default-next : goal.returns-in-default-next
-returns-in-default-next g c =
+pub returns-in_default-next : goal.returns-in_default-next
+returns-in_default-next g c =
     let u = g.U.Stage in
     let l = g.L.Stage in
-    let asked = c.receive-waits.ensures in
-    let took = c.receive-take.ensures in
+    let asked = c.receive_waits.ensures in
+    let took = c.receive_take.ensures in
     let inv = c.loop-misfit.invariant in
     let m = u.model c.args.upper.now in
     let misfit = c.loop-misfit.misfit in
     let u₀ : Receiving = u.receiving c.loop-misfit.upper in
     let l₀ : Receiving = l.receiving c.loop-misfit.lower in
-    let idle : u₀.waits ≡ silence = nothing_heard u₀.waits (sym asked.answers ∙ c.if-not-receive-waits.true) in
-    let empty : l₀.waits ≡ silence = none_heard l₀.waits (sym took.answers ∙ c.in-Ok.is ∙ ap Ok c.in-default-next.is) in
-    let same : l.receiving c.receive-take.new.self ≡ l₀ = took.side ∙ none_collected l₀ (ap (λ h. h.units) empty) in
+    let idle : u₀.waits ≡ silence = nothing_heard u₀.waits (sym asked.answers ∙ c.if-not-receive_waits.true) in
+    let empty : l₀.waits ≡ silence = none_heard l₀.waits (sym took.answers ∙ c.in-Ok.is ∙ ap Ok c.in_default-next.is) in
+    let same : l.receiving c.receive_take.new.self ≡ l₀ = took.side ∙ none_collected l₀ (ap (λ h. h.units) empty) in
     let quiet = waits_nothing m u₀ l₀ (g.met.U.Stage.hears c.loop-misfit.upper) idle empty in
     record {
       upper_fixed = asked.fixed ∙ inv.0;

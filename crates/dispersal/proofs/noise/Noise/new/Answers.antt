@@ -2,6 +2,6 @@ use Rattle.std.proofs.Common.{refl, lit<}
 use Rattle.dispersal.specs.Noise.{before}
 use Rattle.dispersal.proofs.noise.Noise.new.Goals as goal
 
-pub invariant-of-result : goal.invariant-of-result
+pub invariant_of-result : goal.invariant_of-result
 unfolding before
-invariant-of-result c = (lit< tt, (refl, tt))
+invariant_of-result c = record { within = lit< tt; runs = refl }

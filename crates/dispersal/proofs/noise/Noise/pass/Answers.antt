@@ -8,33 +8,31 @@ use Rattle.dispersal.proofs.noise.Noise.pass.Goals.{then-place-eq0, else-place-e
 small : (register place : ℕ) → register ≡ before place → register < 32768
 small register place e = omega (arith, before_lt place)
 
-pub next-outputs-out-requires : goal.next-outputs-out-requires
-next-outputs-out-requires c = let s = c.args.self.now in small s.register s.place s.runs
+pub next_outputs-out-requires : goal.next_outputs-out-requires
+next_outputs-out-requires c = let s = c.args.self.now in small s.register s.place s.runs
 
 pub moved-register-requires : goal.moved-register-requires
-moved-register-requires c = let s = c.args.self.now in (small s.register s.place s.runs, c.next-outputs-out.ensures)
+moved-register-requires c = let s = c.args.self.now in (small s.register s.place s.runs, c.next_outputs-out.ensures)
 
-pub invariant-of-self : goal.invariant-of-self
-invariant-of-self c =
+pub invariant_of-self : goal.invariant_of-self
+invariant_of-self c =
     let s = c.args.self.now in
-    let next = c.next-place-place.result in (
-      omega (arith, c.next-place-place.ensures),
-      (
-        elim c.if-place-eq0.branch [
+    let next = c.next_place-place.result in
+    record {
+      within = omega (arith, c.next_place-place.ensures);
+      runs = elim c.if-place-eq0.branch [
           | then-place-eq0 w ↦ w.register-is ∙ sym (before-first next w.if-place-eq0.true)
           | else-place-eq0 w ↦
-              let on : s.place + 1 ≡ next = omega (arith, c.next-place-place.ensures, w.if-place-eq0.false) in
+              let on : s.place + 1 ≡ next = omega (arith, c.next_place-place.ensures, w.if-place-eq0.false) in
               w.register-is ∙ w.moved-register.ensures ∙ ap (moved_on s.place) s.runs ∙ sym (before-next s.place) ∙ ap before on
-        ],
-        tt,
-      ),
-    )
+        ];
+    }
 
 pub returns : goal.returns
 returns c =
     let s = c.args.self.now in
     record {
       out = ap (bit_xor c.args.byte)
-          (c.mask-at-mask.ensures ∙ ap (masked s.place) (c.next-outputs-out.ensures ∙ ap (outputs 8 0) s.runs) ∙ sym (mask_is s.place));
-      on = c.next-place-place.ensures;
+          (c.mask_at-mask.ensures ∙ ap (masked s.place) (c.next_outputs-out.ensures ∙ ap (outputs 8 0) s.runs) ∙ sym (mask_is s.place));
+      on = c.next_place-place.ensures;
     }

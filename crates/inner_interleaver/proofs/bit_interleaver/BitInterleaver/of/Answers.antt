@@ -4,8 +4,8 @@ use Rattle.inner_interleaver.specs.Digits.{width_some}
 use Rattle.inner_interleaver.proofs.Stores.{zeros_below}
 use Rattle.inner_interleaver.proofs.bit_interleaver.BitInterleaver.of.Goals as goal
 
-pub invariant-of-result : goal.invariant-of-result
-invariant-of-result c = (λ k. zeros_below 756 2 k (lit≤ tt), (omega (arith, width_some c.args.constellation), (omega arith, tt)))
+pub invariant_of-result : goal.invariant_of-result
+invariant_of-result c = record { small = λ k. zeros_below 756 2 k (lit≤ tt); short = omega (arith, width_some c.args.constellation); few = omega arith }
 
 pub returns : goal.returns
 returns c = record { model = refl; sends = new_sends c.args.constellation _; hears = new_hears c.args.constellation _ }

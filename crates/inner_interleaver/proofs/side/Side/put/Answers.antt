@@ -23,6 +23,6 @@ returns-else-self-list c =
     let n = symbol_cells m in
     let size : length c.list.result.now ≡ n = ap length c.list.ensures ∙ (addresses_permute m).size in
     let full : n ≤ s.have + 1 = omega (arith, size, c.if-self-list.false) in
-    let o = c.turn-over.ensures in
+    let o = c.turn_over.ensures in
     (λ i. record { words = o.words i; have = o.have i; moved = o.moved i; at = o.at i; parity = o.parity i })
     ∙ sym (cond-false (ltb (s.have + 1) n) (with_word s u) (with_symbol m s u) (le-ltb (s.have + 1) n full))

@@ -9,18 +9,20 @@ use Rattle.inner_interleaver.specs.Symbols.{symbol_some}
 use Rattle.inner_interleaver.proofs.SymbolSides.{new_sends, new_hears}
 use Rattle.inner_interleaver.proofs.symbol_interleaver.SymbolInterleaver.of.Goals as goal
 
-pub invariant-of-result : goal.invariant-of-result
-invariant-of-result c =
+pub invariant_of-result : goal.invariant_of-result
+invariant_of-result c =
     let out = c.new-2.ensures in
     let back = c.new-3.ensures in
     let some = symbol_some c.new.result.mode in
-    let z = pow_pos (word_bits c.args.constellation) in (
-      omega (arith, ap (λ s. s.have) out.side, some),
-      (
-        omega (arith, ap (λ s. s.have) back.side, some),
-        (λ k. omega (arith, out.words k, z), (λ k. omega (arith, out.moved k, z), (λ k. omega (arith, back.words k, z), (λ k. omega (arith, back.moved k, z), tt)))),
-      ),
-    )
+    let z = pow_pos (word_bits c.args.constellation) in
+    record {
+      out_short = omega (arith, ap (λ s. s.have) out.side, some);
+      back_short = omega (arith, ap (λ s. s.have) back.side, some);
+      out_words = λ k. omega (arith, out.words k, z);
+      out_moved = λ k. omega (arith, out.moved k, z);
+      back_words = λ k. omega (arith, back.words k, z);
+      back_moved = λ k. omega (arith, back.moved k, z);
+    }
 
 pub returns : goal.returns
 returns c =

@@ -5,7 +5,7 @@ use Rattle.stage.proofs.Offers.{accepted, waiting, waiting-heard}
 use Rattle.outer.specs.OuterCoder.{coder_receiving, checked, root_fault}
 use Rattle.outer.proofs.CoderSides.{some_receiving, heard-more, heard_whole, none_waits}
 use Rattle.outer.proofs.outer_coder.OuterCoderStage.receive_offer.Goals as goal
-use Rattle.outer.proofs.outer_coder.OuterCoderStage.receive_offer.Goals.{then-self-lt188-via-then-self-lt188, then_self_lt188_via_else_self_lt188+then_self}
+use Rattle.outer.proofs.outer_coder.OuterCoderStage.receive_offer.Goals.{then-self-lt188-via-then-self-lt188, then-self-lt188-via-else-self-lt188+then-self}
 
 pub returns-then-self-lt188 : goal.returns-then-self-lt188
 returns-then-self-lt188 c =
@@ -16,7 +16,7 @@ returns-then-self-lt188 c =
     let either : (ltb s.place 188 || s.failed) ≡ true =
     elim c.then-self-lt188.branch [
       | then-self-lt188-via-then-self-lt188 w ↦ or_left (ltb s.place 188) s.failed (lt-ltb s.place 188 w.if-self-lt188.true)
-      | then_self_lt188_via_else_self_lt188+then_self w ↦ or_right (ltb s.place 188) s.failed w.if-self.true
+      | then-self-lt188-via-else-self-lt188+then-self w ↦ or_right (ltb s.place 188) s.failed w.if-self.true
     ] in
     let busy = some_receiving s.block long s.place s.failed ∙ either in
     record {
@@ -26,8 +26,8 @@ returns-then-self-lt188 c =
       side = waiting-heard _ _ (coder_receiving s.block s.heard s.place s.failed) u fits busy;
     }
 
-pub returns-then-block-goes-on : goal.returns-then-block-goes-on
-returns-then-block-goes-on c =
+pub returns-then-block_goes_on : goal.returns-then-block_goes_on
+returns-then-block_goes_on c =
     let s = c.args.self.now in
     let u = c.args.unit in
     let long : length s.block ≡ 204 = search rules in
@@ -37,11 +37,11 @@ returns-then-block-goes-on c =
       other = refl;
       answers = accepted _ _ (lt-ltb u 256 (omega arith)) idle;
       side = heard-more s.block s.heard s.place u s.failed long (omega arith) s.gathering c.if-self-lt188.false c.if-self.false
-          (ltb-true s.heard 203 (sym c.if-block-goes-on.ensures));
+          (ltb-true s.heard 203 (sym c.if-block_goes_on.ensures));
     }
 
-pub returns-then-is-codeword : goal.returns-then-is-codeword
-returns-then-is-codeword c =
+pub returns-then-is_codeword : goal.returns-then-is_codeword
+returns-then-is_codeword c =
     let s = c.args.self.now in
     let u = c.args.unit in
     let long : length s.block ≡ 204 = search rules in
@@ -51,13 +51,13 @@ returns-then-is-codeword c =
       other = refl;
       answers = accepted _ _ (lt-ltb u 256 (omega arith)) idle;
       side = heard_whole s.block s.heard s.place u s.failed long (omega arith) s.gathering c.if-self-lt188.false c.if-self.false
-          (ltb-false s.heard 203 (sym c.if-block-goes-on.ensures)) c.is-codeword.result c.is-codeword.ensures _
+          (ltb-false s.heard 203 (sym c.if-block_goes_on.ensures)) c.is_codeword.result c.is_codeword.ensures _
           (ap (λ f. record { units = take 188 (set s.block s.heard u); fault = root_fault f }) c.if-self.false
-          ∙ sym (ap (λ v. checked v (set s.block s.heard u)) c.if-is-codeword.true));
+          ∙ sym (ap (λ v. checked v (set s.block s.heard u)) c.if-is_codeword.true));
     }
 
-pub returns-else-is-codeword : goal.returns-else-is-codeword
-returns-else-is-codeword c =
+pub returns-else-is_codeword : goal.returns-else-is_codeword
+returns-else-is_codeword c =
     let s = c.args.self.now in
     let u = c.args.unit in
     let long : length s.block ≡ 204 = search rules in
@@ -67,8 +67,8 @@ returns-else-is-codeword c =
       other = refl;
       answers = accepted _ _ (lt-ltb u 256 (omega arith)) idle;
       side = heard_whole s.block s.heard s.place u s.failed long (omega arith) s.gathering c.if-self-lt188.false c.if-self.false
-          (ltb-false s.heard 203 (sym c.if-block-goes-on.ensures)) c.is-codeword.result c.is-codeword.ensures _
+          (ltb-false s.heard 203 (sym c.if-block_goes_on.ensures)) c.is_codeword.result c.is_codeword.ensures _
           (ap (λ us. record { units = us; fault = root_fault true })
           (none_waits (set s.block s.heard u) (length-set s.block s.heard u ∙ long) s.place c.if-self-lt188.false)
-          ∙ sym (ap (λ v. checked v (set s.block s.heard u)) c.if-is-codeword.false));
+          ∙ sym (ap (λ v. checked v (set s.block s.heard u)) c.if-is_codeword.false));
     }

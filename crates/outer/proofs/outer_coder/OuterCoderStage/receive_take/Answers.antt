@@ -29,7 +29,7 @@ returns-then-self c =
     record {
       fixed = refl;
       other = refl;
-      answers = ap Err c.root-fails.ensures ∙ sym (ap₂ (λ us f. first_or us (fault_or (root_fault f))) none c.if-self.true);
+      answers = ap Err c.root_fails.ensures ∙ sym (ap₂ (λ us f. first_or us (fault_or (root_fault f))) none c.if-self.true);
       below = tt;
       side = sym (none_collected (coder_receiving s.block s.heard s.place s.failed) none);
     }

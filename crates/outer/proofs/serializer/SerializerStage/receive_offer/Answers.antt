@@ -9,17 +9,17 @@ use Rattle.outer.specs.Serializing.{gathered_small, last_bits_more, length_last_
 use Rattle.stage.proofs.Waiting.{some-listed, none_listed}
 use Rattle.outer.proofs.serializer.SerializerStage.receive_offer.Goals as goal
 
-pub invariant-of-self : goal.invariant-of-self
-invariant-of-self c =
+pub invariant_of-self : goal.invariant_of-self
+invariant_of-self c =
     let s = c.args.self.now in
-    (s.within, (omega arith, (gathered_small s.have s.bits c.args.unit s.small (omega arith), tt)))
+    record { within = s.within; short = omega arith; small = gathered_small s.have s.bits c.args.unit s.small (omega arith) }
 
 pub returns-then-self-lt7 : goal.returns-then-self-lt7
 returns-then-self-lt7 c =
     let s = c.args.self.now in
     let u = c.args.unit in
     let fits = lt-ltb u 2 c.if-unit-ge2.false in
-    let none = sym c.if-is-some.ensures in
+    let none = sym c.if-is_some.ensures in
     let idle = some-listed s.back ∙ none in
     let held = last_bits s.have s.bits in
     let short : length held + 1 < 8 = omega (arith, length_last_bits s.have s.bits) in
@@ -37,7 +37,7 @@ returns-else-self-lt7 c =
     let s = c.args.self.now in
     let u = c.args.unit in
     let fits = lt-ltb u 2 c.if-unit-ge2.false in
-    let idle = some-listed s.back ∙ sym c.if-is-some.ensures in
+    let idle = some-listed s.back ∙ sym c.if-is_some.ensures in
     let held = last_bits s.have s.bits in
     let full : 8 ≤ length held + 1 = omega (arith, length_last_bits s.have s.bits) in
     record {

@@ -11,21 +11,21 @@ returns g c =
     let l = g.L.Stage in
     let p = c.args.self.now in
     let v = c.args.unit in
-    let up = c.settle-up.ensures in
-    let gave = c.receive-offer.ensures in
+    let up = c.settle_up.ensures in
+    let gave = c.receive_offer.ensures in
     let m = u.model p.upper in
     let k = l.model p.lower in
     let u₀ : Receiving = u.receiving p.upper in
     let l₀ : Receiving = l.receiving p.lower in
-    let u₁ : Receiving = u.receiving c.settle-up.new.upper in
-    let l₁ : Receiving = l.receiving c.settle-up.new.lower in
-    let l₂ : Receiving = l.receiving c.receive-offer.new.self in
-    let su = g.met.U.Stage.hears c.settle-up.new.upper in
-    let sl = g.met.L.Stage.hears c.settle-up.new.lower in
-    let fit : fits m k ≡ true = sym c.parts-fit.ensures ∙ c.if-not-parts-fit.false in
-    let quiet = quiet_parts m u₁ l₁ c.settle-up.new.misfit su up.settled (sym up.answers ∙ c.if-settle-up.false) in
-    let lower_same : l.model c.receive-offer.new.self ≡ k = gave.fixed ∙ up.lower_fixed in
-    let top : (l.model c.settle-up.new.lower).given ≡ k.given = ap (λ m. m.given) up.lower_fixed in
+    let u₁ : Receiving = u.receiving c.settle_up.new.upper in
+    let l₁ : Receiving = l.receiving c.settle_up.new.lower in
+    let l₂ : Receiving = l.receiving c.receive_offer.new.self in
+    let su = g.met.U.Stage.hears c.settle_up.new.upper in
+    let sl = g.met.L.Stage.hears c.settle_up.new.lower in
+    let fit : fits m k ≡ true = sym c.parts_fit.ensures ∙ c.if-not-parts_fit.false in
+    let quiet = quiet_parts m u₁ l₁ c.settle_up.new.misfit su up.settled (sym up.answers ∙ c.if-settle_up.false) in
+    let lower_same : l.model c.receive_offer.new.self ≡ k = gave.fixed ∙ up.lower_fixed in
+    let top : (l.model c.settle_up.new.lower).given ≡ k.given = ap (λ m. m.given) up.lower_fixed in
     let below : v < k.given = omega (arith, c.if-from-given.false, c.from.ensures, c.given.ensures) in
     let whole : joined_receiving false m u₁ l₁ ≡ joined_receiving p.misfit m u₀ l₀ =
     ap (λ b. joined_receiving b m u₁ l₁) (sym quiet.0) ∙ up.side in
@@ -34,7 +34,7 @@ returns g c =
       other = same_queued p.down up.upper_fixed lower_same up.upper_other (gave.other ∙ up.lower_other);
       answers = gave.answers ∙ ap (λ n. answer (ltb v n) (some_heard l₁.waits)) top
           ∙ heard-answer m k p.misfit u₀ l₀ u₁ l₁ v fit su quiet.1 quiet.2 whole;
-      side = same_up c.settle-up.new.misfit u₁ l₂ up.upper_fixed lower_same fit
+      side = same_up c.settle_up.new.misfit u₁ l₂ up.upper_fixed lower_same fit
           ∙ ap (λ b. joined_receiving b m u₁ l₂) quiet.0
           ∙ offer_up m k p.misfit u₀ l₀ u₁ l₁ v fit su quiet.1 quiet.2 whole l₂ sl below
           (gave.side ∙ ap (λ n. heard (ltb v n) (some_heard l₁.waits) l₁ v) top);

@@ -11,11 +11,11 @@ returns g c =
     let p = c.args.self.now in
     let m = u.model p.upper in
     let k = l.model p.lower in
-    let passed = c.send-pass.ensures in
+    let passed = c.send_pass.ensures in
     record {
       fixed = passed.fixed;
       other = passed.other;
-      drains = drained_by (piled m k) c.send-pass.result
+      drains = drained_by (piled m k) c.send_pass.result
           (piled_sends m k (queueing k p.down (u.sending p.upper)) (l.sending p.lower) (g.met.U.Stage.rule p.upper).sends_grow
           (g.met.L.Stage.rule p.lower).sends_grow (g.met.U.Stage.sends p.upper) (g.met.L.Stage.sends p.lower)) passed.passes;
     }

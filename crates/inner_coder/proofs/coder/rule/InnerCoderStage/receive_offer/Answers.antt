@@ -2,7 +2,9 @@ use Rattle.std.proofs.Common.{◌≡◌, ◌/◌, ◌<◌, false, cond, length, 
 use Rattle.std.proofs.lemmas.Bool.{lt-ltb}
 use Rattle.stage.proofs.Offers.{accepted}
 use Rattle.stage.specs.Model.{some_heard}
+use Rattle.inner_coder.specs.contracts.puncturing.Sent.{the_type}
 use Rattle.inner_coder.specs.declared.puncturing.Sent.TheVariants.{Both}
+use denote.Enum.Bare.{sameb}
 use Rattle.inner_coder.specs.Puncturing.{pattern_of, onward, sent_at}
 use Rattle.inner_coder.specs.Convolution.{walked, shifted, bit_from, first_of, differ}
 use Rattle.inner_coder.specs.Coder.{hearing_side}
@@ -21,8 +23,8 @@ returns c =
     let is : c.pattern-pattern.result.now ≡ pattern_of s.rate = c.pattern-pattern.ensures in
     let bit : c.from.result ≡ bit_from s.rate w u =
     c.from.ensures
-    ∙ byte_differ u c.first-unit-zero.result
-    ∙ ap (differ u) (c.first-unit-zero.ensures ∙ ap (λ p. first_of (get_or p w.phase Both) (w.register / 2)) is) in
+    ∙ byte_differ u c.first_unit-zero.result
+    ∙ ap (differ u) (c.first_unit-zero.ensures ∙ ap (λ p. first_of (get_or p w.phase Both) (w.register / 2)) is) in
     let on : c.shift.new.self ≡ walked s.rate w (bit_from s.rate w u) =
     λ i. record {
       phase = (c.shift.ensures.phase ∙ ap (λ p. onward (length p) w.phase) is) i;
@@ -33,6 +35,5 @@ returns c =
       other = refl;
       answers = accepted _ _ (lt-ltb u 2 fits) (ap₂ (λ b f. some_heard (hearing_side s.rate w s.second b f).waits) idle clear);
       side = first_side s.rate w c.shift.new.self u s.hearing_seven fits on s.second s.bit s.failed c.eq-self.result first idle clear
-          (both_is (sent_at s.rate w.phase) c.eq-self.result
-          (subst (λ p. cond c.eq-self.result (get_or p w.phase Both ≡ Both) (get_or p w.phase Both ≡ Both → ⊥)) is c.eq-self.ensures));
+          (c.eq-self.ensures ∙ ap (λ p. sameb the_type (get_or p w.phase Both) Both) is ∙ both_is (sent_at s.rate w.phase));
     }

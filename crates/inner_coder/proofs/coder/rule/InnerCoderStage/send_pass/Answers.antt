@@ -13,10 +13,9 @@ use Rattle.inner_coder.proofs.coder.rule.InnerCoderStage.send_pass.Goals as goal
 pub returns-then-ne : goal.returns-then-ne
 returns-then-ne c =
     let s = c.args.self.now in
-    let drained = c.send-drain-left.ensures in
-    let s₁ = c.send-drain-left.new.self in
-    let test = c.if-ne.ensures in
-    let more : some (sending_of s₁).waits ≡ true = some_left s₁.waits s₁.sending.register test.0 test.1 test.2 in
+    let drained = c.send_drain-left.ensures in
+    let s₁ = c.send_drain-left.new.self in
+    let more : some (sending_of s₁).waits ≡ true = some_left s₁.waits s₁.sending.register c.if-ne.ensures in
     record {
       fixed = drained.fixed;
       other = drained.other;
@@ -35,16 +34,15 @@ returns-then-ne c =
 pub returns : goal.returns
 returns c =
     let s = c.args.self.now in
-    let drained = c.send-drain-left.ensures in
-    let s₁ = c.send-drain-left.new.self in
+    let drained = c.send_drain-left.ensures in
+    let s₁ = c.send_drain-left.new.self in
     let went = c.encode-coded.ensures in
     let w = c.encode-coded.new.walk in
     let used = c.encode-coded.result.used in
-    let rest = c.send-units-rest.ensures in
+    let rest = c.send_units-rest.ensures in
     let M = inner_code s.rate in
     let input = c.args.input.now in
-    let test = c.if-ne.ensures in
-    let none : s₁.waits ≡ Nothing = none_left s₁.waits test.0 test.1 test.2 in
+    let none : s₁.waits ≡ Nothing = none_left s₁.waits c.if-ne.ensures in
     let before : sending_of s₁ ≡ idle_at s₁.rate s₁.sending =
     λ i. record { waits = units_left (none i) s₁.sending.register; future = coded s₁.rate s₁.sending } in
     let after : idle_at s₁.rate w ≡ record { waits = units_left s₁.waits w.register; future = coded s₁.rate w } =
@@ -54,6 +52,6 @@ returns c =
     record {
       fixed = rest.fixed ∙ drained.fixed;
       other = rest.other ∙ drained.other;
-      passes = passes_then M (sending_of s) input used c.send-units-rest.result drained.fixed
+      passes = passes_then M (sending_of s) input used c.send_units-rest.result drained.fixed
           (gives_sends (sends_one s.rate) (walked s.rate) s.sending) went.used went.fits done rest.passes;
     }

@@ -7,7 +7,7 @@ use Rattle.inner_interleaver.specs.Words.{words_of}
 use Rattle.inner_interleaver.specs.BitInterleaver.{same, encode, bit_interleaving, sending_of}
 use Rattle.inner_interleaver.specs.Digits.{length-words, get_d_words}
 use Rattle.inner_interleaver.proofs.bit_interleaver.rule.BitInterleaverStage.send_drain.Goals as goal
-use Rattle.inner_interleaver.proofs.bit_interleaver.rule.BitInterleaverStage.send_drain.Goals.{then_loop_made_test+else_at_lt_WORDS, else-loop-made-test}
+use Rattle.inner_interleaver.proofs.bit_interleaver.rule.BitInterleaverStage.send_drain.Goals.{then-loop-made-test+else-at-lt-WORDS, else-loop-made-test}
 
 pub loop-made-init : goal.loop-made-init
 loop-made-init c = gives_none (bit_interleaving c.args.self.now.constellation) (sending_of c.args.self.now) c.args.output.now
@@ -28,7 +28,7 @@ returns c =
     let k = s.constellation in
     let at = c.loop-made.at in
     let past : c.loop-made.made < length c.args.output.now → 126 ≤ at = λ h.
-    elim c.loop-made-test.branch [ then_loop_made_test+else_at_lt_WORDS w ↦ w.if-at-lt-WORDS.false | else-loop-made-test w ↦ absurd (omega (arith, w.loop-made-test.false)) ] in
+    elim c.loop-made-test.branch [ then-loop-made-test+else-at-lt-WORDS w ↦ w.if-at-lt-WORDS.false | else-loop-made-test w ↦ absurd (omega (arith, w.loop-made-test.false)) ] in
     record {
       fixed = refl;
       other = refl;

@@ -16,15 +16,15 @@ returns-then-self-lt-WORDS c =
     2 c.args.unit c.if-unit-ge2.false c.if-self-lt-WORDS.true in
     record { fixed = refl; other = refl; answers = r.answers; side = r.side }
 
-pub invariant-of-self : goal.invariant-of-self
-invariant-of-self c =
+pub invariant_of-self : goal.invariant_of-self
+invariant_of-self c =
     let s = c.args.self.now in
-    (set_below 2 s.bits s.have c.args.unit s.small c.if-unit-ge2.false, (omega (arith, c.block.ensures, c.if-self-block.true), (s.few, tt)))
+    record { small = set_below 2 s.bits s.have c.args.unit s.small c.if-unit-ge2.false; short = omega (arith, c.block.ensures, c.if-self-block.true); few = s.few }
 
-pub invariant-of-self-else-self-block : goal.invariant-of-self-else-self-block
-invariant-of-self-else-self-block c =
+pub invariant_of-self-else-self-block : goal.invariant_of-self-else-self-block
+invariant_of-self-else-self-block c =
     let s = c.args.self.now in
-    (set_below 2 s.bits s.have c.args.unit s.small c.if-unit-ge2.false, (omega (arith, width_some s.constellation), (s.few, tt)))
+    record { small = set_below 2 s.bits s.have c.args.unit s.small c.if-unit-ge2.false; short = omega (arith, width_some s.constellation); few = s.few }
 
 pub returns-then-self-block : goal.returns-then-self-block
 returns-then-self-block c =

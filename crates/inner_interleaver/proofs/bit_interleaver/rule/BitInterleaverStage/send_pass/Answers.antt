@@ -22,7 +22,7 @@ loop-self-init c =
 pub loop-self-preserved : goal.loop-self-preserved
 loop-self-preserved c =
     let inv = c.loop-self.invariant in
-    let drained = c.send-drain-made.ensures in
+    let drained = c.send_drain-made.ensures in
     let got = c.gather-used.ensures in
     let s = c.args.self.now in
     let k = s.constellation in
@@ -41,9 +41,9 @@ loop-self-preserved c =
 pub returns-then-self-lt-WORDS : goal.returns-then-self-lt-WORDS
 returns-then-self-lt-WORDS c =
     let inv = c.loop-self.invariant in
-    let drained = c.send-drain-made.ensures in
+    let drained = c.send_drain-made.ensures in
     let m = bit_interleaving c.args.self.now.constellation in
-    let s₁ = c.send-drain-made.new.self in
+    let s₁ = c.send_drain-made.new.self in
     let busy : some (sending_of s₁).waits ≡ true =
     some-rest (words_of s₁.constellation s₁.bits) 126 s₁.at (length-words s₁.constellation s₁.bits) ∙ lt-ltb s₁.at 126 c.if-self-lt-WORDS.true in
     record {
@@ -61,7 +61,7 @@ returns-then-self-lt-WORDS c =
 pub returns-then-self-ge-WORDS : goal.returns-then-self-ge-WORDS
 returns-then-self-ge-WORDS c =
     let inv = c.loop-self.invariant in
-    let drained = c.send-drain-made.ensures in
+    let drained = c.send_drain-made.ensures in
     let got = c.gather-used.ensures in
     let s = c.args.self.now in
     let k = s.constellation in

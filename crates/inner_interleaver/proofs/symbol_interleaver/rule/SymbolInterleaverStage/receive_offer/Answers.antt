@@ -13,13 +13,20 @@ returns-then-waits c =
     (omega (arith, c.from.ensures, c.limit.ensures, c.if-from-limit.false)) c.waits.result c.waits.ensures.answers c.if-waits.true in
     record { fixed = refl; other = refl; answers = r.heard_answers; side = r.heard_side }
 
-pub invariant-of-self : goal.invariant-of-self
-invariant-of-self c =
+pub invariant_of-self : goal.invariant_of-self
+invariant_of-self c =
     let s = c.args.self.now in
     let k = put-kept s.addresses.mode (2 ^ word_bits s.constellation) c.args.unit s.back
     (omega (arith, c.from.ensures, c.limit.ensures, c.if-from-limit.false)) c.waits.ensures.roomy s.back_short
     (record { words = s.back_words; moved = s.back_moved }) c.put.new.self c.put.ensures in
-    (s.out_short, (k.short, (s.out_words, (s.out_moved, (k.below.words, (k.below.moved, tt))))))
+    record {
+      out_short = s.out_short;
+      back_short = k.short;
+      out_words = s.out_words;
+      out_moved = s.out_moved;
+      back_words = k.below.words;
+      back_moved = k.below.moved;
+    }
 
 pub returns : goal.returns
 returns c =

@@ -12,13 +12,20 @@ returns-then-waits c =
     (omega (arith, c.from.ensures, c.limit.ensures, c.if-from-limit.false)) c.waits.result c.waits.ensures.answers c.if-waits.true in
     record { fixed = refl; other = refl; answers = r.answers; side = r.side }
 
-pub invariant-of-self : goal.invariant-of-self
-invariant-of-self c =
+pub invariant_of-self : goal.invariant_of-self
+invariant_of-self c =
     let s = c.args.self.now in
     let k = put-kept s.addresses.mode (2 ^ word_bits s.constellation) c.args.unit s.out
     (omega (arith, c.from.ensures, c.limit.ensures, c.if-from-limit.false)) c.waits.ensures.roomy s.out_short
     (record { words = s.out_words; moved = s.out_moved }) c.put.new.self c.put.ensures in
-    (k.short, (s.back_short, (k.below.words, (k.below.moved, (s.back_words, (s.back_moved, tt))))))
+    record {
+      out_short = k.short;
+      back_short = s.back_short;
+      out_words = k.below.words;
+      out_moved = k.below.moved;
+      back_words = s.back_words;
+      back_moved = s.back_moved;
+    }
 
 pub returns : goal.returns
 returns c =
