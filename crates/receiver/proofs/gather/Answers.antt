@@ -10,24 +10,24 @@ use Rattle.receiver.proofs.gather.Goals as goal
 pub loop-gathered-preserved : goal.loop-gathered-preserved
 loop-gathered-preserved g c =
     let p = g.P.Stage in
-    let took = c.receive-take.ensures in
+    let took = c.receive_take.ensures in
     let inv = c.loop-gathered.invariant in
     let v = c.in-Some.unit in (
       took.fixed ∙ inv.0,
-      gathered-on (p.receiving c.loop-gathered.pile) (p.receiving c.receive-take.new.self) (units_of c.loop-gathered.gathered) (units_of c.push.new.self) v
-          (sym took.answers ∙ c.in-ok-unit.was ∙ ap Ok c.in-Some.is) took.side c.push.ensures.units
+      gathered-on (p.receiving c.loop-gathered.pile) (p.receiving c.receive_take.new.self) (units_of c.loop-gathered.gathered) (units_of c.push.new.self) v
+          (sym took.answers ∙ c.in_ok-unit.was ∙ ap Ok c.in-Some.is) took.side c.push.ensures.units
           ∙ inv.1,
     )
 
-pub returns-in-default : goal.returns-in-default
-returns-in-default g c =
+pub returns-in_default : goal.returns-in_default
+returns-in_default g c =
     let p = g.P.Stage in
-    let took = c.receive-take.ensures in
+    let took = c.receive_take.ensures in
     let inv = c.loop-gathered.invariant in
     let s : Receiving = p.receiving c.loop-gathered.pile in
-    let s' : Receiving = p.receiving c.receive-take.new.self in
+    let s' : Receiving = p.receiving c.receive_take.new.self in
     let us = units_of c.loop-gathered.gathered in
-    let none = sym took.answers ∙ c.in-ok-unit.was ∙ ap Ok c.in-default.is in
+    let none = sym took.answers ∙ c.in_ok-unit.was ∙ ap Ok c.in_default.is in
     let same : s' ≡ s = took.side ∙ none_collected s (ap (λ h. h.units) (none_heard s.waits none)) in
     let few : length us < 188 = omega (arith, length-take c.loop-gathered.gathered.count c.loop-gathered.gathered.packet) in
     let silent = ap (λ s. s.waits) same ∙ none_heard s.waits none in
@@ -54,18 +54,18 @@ returns g c =
       whole = λ e. omega arith;
     }
 
-pub returns-in-err-unit : goal.returns-in-err-unit
-returns-in-err-unit g c =
+pub returns-in_err-unit : goal.returns-in_err-unit
+returns-in_err-unit g c =
     let p = g.P.Stage in
-    let took = c.receive-take.ensures in
+    let took = c.receive_take.ensures in
     let inv = c.loop-gathered.invariant in
     let s : Receiving = p.receiving c.loop-gathered.pile in
-    let s' : Receiving = p.receiving c.receive-take.new.self in
+    let s' : Receiving = p.receiving c.receive_take.new.self in
     let us = units_of c.loop-gathered.gathered in
-    let fault : Fault = c.in-err-unit.field-0.0 in
-    let out = err_from_is_err_and c.from-residual.result c.from-residual.ensures.1 in
-    let is : c.from-residual.result ≡ Err fault = out.1 ∙ ap Err out.2 in
-    let failed = sym took.answers ∙ c.in-err-unit.was in
+    let fault : Fault = c.in_err-unit.field-0.0 in
+    let out = err_from_is_err_and c.from_residual.result c.from_residual.ensures.1 in
+    let is : c.from_residual.result ≡ Err fault = out.1 ∙ ap Err out.2 in
+    let failed = sym took.answers ∙ c.in_err-unit.was in
     let same : s' ≡ s = took.side ∙ fault_collected s fault failed in
     let few : length us < 188 = omega (arith, length-take c.loop-gathered.gathered.count c.loop-gathered.gathered.packet) in
     record {

@@ -22,8 +22,8 @@ returns g c =
     record {
       fixed = pumped.fixed;
       does = packet_does (p.model l.pile) xs whole sync (eqb (p.model l.pile).taken 256) (eqb (p.model c.pump.new.pile).taken 256)
-          l.phase l.frame c.count.new.self side (fed s (bytes_of c.set-packet.new.self))
-          (sym c.admit.ensures ∙ c.in-ok-admit.was) (ap (λ m. eqb m.taken 256) pumped.fixed)
+          l.phase l.frame c.count.new.self side (fed s (bytes_of c.set_packet.new.self))
+          (sym c.admit.ensures ∙ c.in_ok-admit.was) (ap (λ m. eqb m.taken 256) pumped.fixed)
           (none_waits_fed s side ps grow pumped.side none idle) c.count.ensures.settings c.count.ensures.begun
-          (ap (fed s) c.set-packet.ensures ∙ fed_further s side ps grow pumped.side none xs);
+          (ap (fed s) c.set_packet.ensures ∙ fed_further s side ps grow pumped.side none xs);
     }

@@ -21,9 +21,9 @@ returns g c =
     record {
       fixed = pumped.fixed;
       does = close_does (p.model l.pile) (eqb (p.model l.pile).taken 256) (eqb (p.model c.pump.new.pile).taken 256)
-          l.phase l.frame side (fed s (bytes_of c.set-closing.new.pending))
-          (sym c.admit.ensures ∙ c.in-ok-admit.was) (ap (λ m. eqb m.taken 256) pumped.fixed)
+          l.phase l.frame side (fed s (bytes_of c.set_closing.new.pending))
+          (sym c.admit.ensures ∙ c.in_ok-admit.was) (ap (λ m. eqb m.taken 256) pumped.fixed)
           begun (none_waits_fed s side ps grow pumped.side none idle)
-          (ap (fed s) c.set-closing.ensures
+          (ap (fed s) c.set_closing.ensures
           ∙ fed_further s side ps grow pumped.side none (bytes (closing_packets l.frame.settings)));
     }

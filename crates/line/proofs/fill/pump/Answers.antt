@@ -7,7 +7,7 @@ pub returns : goal.returns
 returns g c =
     let p = g.P.Stage in
     let filled = c.fill.ensures in
-    let asked = c.send-waits.ensures in
+    let asked = c.send_waits.ensures in
     let side : Sending = fed (p.sending c.args.pile.now) (bytes_of c.args.pending.now) in
     let none : c.fill.result ≡ 0 = omega (arith, filled.count) in
     record {

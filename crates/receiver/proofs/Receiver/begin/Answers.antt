@@ -14,24 +14,24 @@ returns g c =
     let side : Receiving = held (units_of r.gathered) (p.receiving r.pile) in
     record {
       fixed = c.clear.ensures.fixed;
-      does = start_does (p.model r.pile) c.args.codes.now r.settings (sym c.is-some.ensures ∙ c.if-is-some.false)
-          c.in-ok-settings.settings side (held (units_of c.clear.new.gathered) (p.receiving c.clear.new.pile))
-          c.in-ok-settings.ensures.settings
-          (sym c.fit.ensures.checks ∙ ap refused_by c.in-ok-settings.was)
+      does = start_does (p.model r.pile) c.args.codes.now r.settings (sym c.is_some.ensures ∙ c.if-is_some.false)
+          c.in_ok-settings.settings side (held (units_of c.clear.new.gathered) (p.receiving c.clear.new.pile))
+          c.in_ok-settings.ensures.settings
+          (sym c.fit.ensures.checks ∙ ap refused_by c.in_ok-settings.was)
           (ap (λ us. held us (p.receiving c.clear.new.pile)) c.clear.ensures.none ∙ c.clear.ensures.hears);
     }
 
-pub returns-in-err-settings : goal.returns-in-err-settings
-returns-in-err-settings g c =
+pub returns-in_err-settings : goal.returns-in_err-settings
+returns-in_err-settings g c =
     let p = g.P.Stage in
     let r = c.args.self.now in
     let side : Receiving = held (units_of r.gathered) (p.receiving r.pile) in
-    let why : Refusal = c.in-err-settings.field-0.0 in
-    let out = err_from_is_err_and c.from-residual.result c.from-residual.ensures.1 in
-    let is : c.from-residual.result ≡ Err why = out.1 ∙ ap Err out.2 in
+    let why : Refusal = c.in_err-settings.field-0.0 in
+    let out = err_from_is_err_and c.from_residual.result c.from_residual.ensures.1 in
+    let is : c.from_residual.result ≡ Err why = out.1 ∙ ap Err out.2 in
     record {
       fixed = refl;
       does = ap (λ x. outcome (done_by x) [] (tuned_by r.settings side)) is
-          ∙ start_refuses (p.model r.pile) c.args.codes.now r.settings (sym c.is-some.ensures ∙ c.if-is-some.false)
-          why side (sym (ap refused_by c.in-err-settings.was) ∙ c.fit.ensures.checks);
+          ∙ start_refuses (p.model r.pile) c.args.codes.now r.settings (sym c.is_some.ensures ∙ c.if-is_some.false)
+          why side (sym (ap refused_by c.in_err-settings.was) ∙ c.fit.ensures.checks);
     }

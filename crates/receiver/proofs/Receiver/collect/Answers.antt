@@ -7,11 +7,11 @@ pub returns : goal.returns
 returns g c =
     let p = g.P.Stage in
     let r = c.args.self.now in
-    let did = c.hand-out.ensures in
+    let did = c.hand_out.ensures in
     record {
       fixed = did.fixed;
       does = did.does;
       continues = receiver_continues (p.model r.pile) (g.met.P.Stage.rule r.pile) (view p.receiving r) (collect c.args.buffer.now)
-          (outcome (collected_by c.hand-out.result) c.hand-out.new.buffer (view p.receiving c.hand-out.new.self)) did.does;
+          (outcome (collected_by c.hand_out.result) c.hand_out.new.buffer (view p.receiving c.hand_out.new.self)) did.does;
       holds = c.holds.ensures;
     }

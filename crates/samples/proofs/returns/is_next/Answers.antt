@@ -9,7 +9,7 @@ tested xs ys r h = search (rules, bytes_eq-Decides)
 
 pub returns : goal.returns
 returns c = record {
-  same = tested c.args.packet.now c.packet-made.result c.eq.result (slice_eq-Decides Decides-eqb _ _ _ c.eq.ensures)
-      ∙ ap (bytes_eq c.args.packet.now) c.packet-made.ensures.bytes;
+  same = tested c.args.packet.now c.as_slice.result.now c.eq.result (slice_eq-Decides Decides-eqb _ _ _ c.eq.ensures)
+      ∙ ap (bytes_eq c.args.packet.now) (c.as_slice.ensures ∙ c.packet-made.ensures.bytes);
   onward = c.packet-made.ensures.onward;
 }

@@ -5,7 +5,7 @@ use Rattle.line.proofs.pending.Pending.load.Goals as goal
 pub returns : goal.returns
 returns c =
     let p = c.args.self.now in
-    let null = c.null-packet-self in
+    let null = c.null_packet-self in
     record {
       same = null_begun p.packet null.result p.at p.nulls (omega arith) (omega arith) null.ensures;
       ready = null_some null.result null.ensures;
