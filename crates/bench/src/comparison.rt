@@ -60,7 +60,7 @@ impl<R: Read> Sink for Comparison<R> {
         if self.returned < self.sent {
             let mut packet = [0; 188];
             self.original.read_exact(&mut packet)?;
-            if units != &packet && self.changed.is_none() {
+            if units != packet.as_slice() && self.changed.is_none() {
                 self.changed = Some(self.returned);
             }
         }

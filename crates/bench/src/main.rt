@@ -18,6 +18,8 @@ mod text;
 use job::Job;
 use perform::perform;
 use std::env;
+use std::io;
+use std::process::ExitCode;
 use stop::Stop;
 
 fn run(rt: &HostRuntime) -> Result<(), Stop> {
@@ -35,20 +37,20 @@ fn run(rt: &HostRuntime) -> Result<(), Stop> {
     }
 }
 
-fn main(rt: HostRuntime) -> Result<(), Stop> {
+fn main(rt: HostRuntime) -> io::Result<ExitCode> {
     match run(&rt) {
+        Ok(()) => Ok(ExitCode::SUCCESS),
         Err(Stop::Refused(refusal)) => {
             rt.print(text::refused(rt.alloc(), refusal)?)?;
-            Ok(())
+            Ok(ExitCode::SUCCESS)
         }
         Err(Stop::Wrong(text)) => {
             eprintln!(rt; "bench: {text}")?;
-            Err(Stop::Wrong(text))
+            Ok(ExitCode::FAILURE)
         }
         Err(Stop::Failed(error)) => {
             eprintln!(rt; "bench: {error}")?;
-            Err(Stop::Failed(error))
+            Ok(ExitCode::FAILURE)
         }
-        Ok(()) => Ok(()),
     }
 }

@@ -15,6 +15,8 @@ use report::Report;
 use samples::expected::EXPECTED;
 use samples::sample;
 use settings::Settings;
+use std::io;
+use std::process::ExitCode;
 use stop::Stop;
 use trial::{Trial, run_trial};
 
@@ -38,17 +40,17 @@ fn run(rt: &HostRuntime) -> Result<(), Stop> {
     report.finish()
 }
 
-fn main(rt: HostRuntime) -> Result<(), Stop> {
+fn main(rt: HostRuntime) -> io::Result<ExitCode> {
     match run(&rt) {
+        Ok(()) => Ok(ExitCode::SUCCESS),
         Err(Stop::Refused(refusal)) => {
             let number = refusal.number();
             eprintln!(rt; "vectors: refused {number}")?;
-            Err(Stop::Refused(refusal))
+            Ok(ExitCode::FAILURE)
         }
         Err(Stop::Failed(error)) => {
             eprintln!(rt; "vectors: {error}")?;
-            Err(Stop::Failed(error))
+            Ok(ExitCode::FAILURE)
         }
-        Ok(()) => Ok(()),
     }
 }
