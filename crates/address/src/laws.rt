@@ -2,7 +2,7 @@
 ghost use Rattle.settings.specs.Mode.{symbol_cells};
 ghost use Rattle.address.specs.Address.{addresses_of};
 ghost use Rattle.address.specs.Permutation.{Permutes};
-ghost use Rattle.address.specs.Vectors.{Recomputed};
+ghost use Rattle.address.specs.Vectors.{Published, Recomputed};
 
 use settings::Mode;
 
@@ -13,9 +13,10 @@ pub fn permutes(mode: Mode) -> u8
     0
 }
 
-// The whole of H is what another program gives.
-pub fn recomputed() -> u8
-    ensures { Recomputed }
+// H begins as it is published, and the whole of it is what another program gives.
+pub fn published() -> u8
+    ensures begins { Published }
+    ensures whole { Recomputed }
 {
     0
 }

@@ -1,6 +1,6 @@
 // What the tool prints.
 ghost use Rattle.std.specs.Prelude.{◌≡◌, IfOk, string_bytes};
-ghost use Rattle.bench.specs.Text.{sent as sent-text, received as received-text, returned as returned-text, refused as refused-text, fault as fault-text, verdict as verdict-text};
+ghost use Rattle.bench.specs.Text.{sent as sent_text, received as received_text, returned as returned_text, refused as refused_text, fault as fault_text, verdict as verdict_text};
 
 use super::comparison::Verdict;
 use refusal::Refusal;
@@ -21,13 +21,13 @@ pub(crate) fn sent(
     closing: u32,
     cells: u64,
 ) -> Result<String, AllocError>
-    ensures { IfOk result (λ text. string_bytes text ≡ sent-text packets closing cells) }
+    ensures { IfOk result (λ text. string_bytes text ≡ sent_text packets closing cells) }
 {
     format!(in heap; "packets {packets}\nclosing {closing}\ncells {cells}\n")
 }
 
 pub(crate) fn received(heap: Global, cells: u64, packets: u64) -> Result<String, AllocError>
-    ensures { IfOk result (λ text. string_bytes text ≡ received-text cells packets) }
+    ensures { IfOk result (λ text. string_bytes text ≡ received_text cells packets) }
 {
     format!(in heap; "cells {cells}\npackets {packets}\n")
 }
@@ -38,20 +38,20 @@ pub(crate) fn returned(
     cells: u64,
     back: u64,
 ) -> Result<String, AllocError>
-    ensures { IfOk result (λ text. string_bytes text ≡ returned-text packets cells back) }
+    ensures { IfOk result (λ text. string_bytes text ≡ returned_text packets cells back) }
 {
     format!(in heap; "packets {packets}\ncells {cells}\nreturned {back}\n")
 }
 
 pub(crate) fn refused(heap: Global, refusal: Refusal) -> Result<String, AllocError>
-    ensures { IfOk result (λ text. string_bytes text ≡ refused-text refusal) }
+    ensures { IfOk result (λ text. string_bytes text ≡ refused_text refusal) }
 {
     let number = refusal.number();
     format!(in heap; "refused {number}\n")
 }
 
 pub(crate) fn fault(heap: Global, found: Fault) -> Result<String, AllocError>
-    ensures { IfOk result (λ text. string_bytes text ≡ fault-text found) }
+    ensures { IfOk result (λ text. string_bytes text ≡ fault_text found) }
 {
     let stage = found.stage;
     let cause = found.cause;
@@ -59,7 +59,7 @@ pub(crate) fn fault(heap: Global, found: Fault) -> Result<String, AllocError>
 }
 
 pub(crate) fn verdict(heap: Global, found: Verdict) -> Result<String, AllocError>
-    ensures { IfOk result (λ text. string_bytes text ≡ verdict-text found) }
+    ensures { IfOk result (λ text. string_bytes text ≡ verdict_text found) }
 {
     match found {
         Verdict::Equal => String::from_str(heap, "every packet came back\n"),

@@ -1,5 +1,6 @@
 -- The register holds the last seven bits, so what is sent is what is published.
 use Rattle.std.proofs.Common.{◌≡◌, ℕ, suc, ◌+◌, ◌-◌, ◌*◌, ◌/◌, ◌%◌, ◌<◌, ◌≤◌, eqb, leb, List, [], ◌∷◌, ◌++◌, reverse, length, get_or, sym, refl, ap, ◌∙◌, ap₂, inl, inr, append_assoc, mod-lt, mod-eq_of_lt, arith, lit≤}
+use lib.Count.{ones}
 use native.Mathlib.Nat.{mod-add-mod, mod_self, zero-mod}
 use Rattle.std.proofs.ByRecursion.{All-get_or}
 use Rattle.std.proofs.lemmas.List.{get_or_append_left, get_or_at, get_or_past, get_or-reverse, length-reverse, reverse-append}
@@ -13,6 +14,7 @@ use Rattle.inner_coder.specs.declared.puncturing.Sent.TheVariants.{Both, X, Y}
 use Rattle.inner_coder.specs.Puncturing.{sent_at, onward, period}
 use Rattle.inner_coder.specs.Convolution.{x_of, y_of, shifted, emitted, coded}
 use Rattle.inner_coder.specs.Published.{ago, x_at, y_at, chosen, units_at, published, SendsPublished}
+use Rattle.inner_coder.specs.Vectors.{InnerVectors}
 use Rattle.inner_coder.specs.Taps.{x_is, y_is}
 
 -- The bits so far stand in hs, the last one first.
@@ -149,3 +151,7 @@ module _ (rate : Rate) where
 
 pub sends_published : SendsPublished
 sends_published rate bs h = ap (λ p. coded rate (record { phase = p; register = 0 }) bs) (sym (zero-mod (period rate))) ∙ from rate [] bs tt h
+
+pub inner_vectors_lem : InnerVectors
+unfolding ones
+inner_vectors_lem = record { half = refl; three_quarters = refl }

@@ -4,3 +4,4 @@ pub mod Coder
 pub mod Published
 pub mod Coding
 pub mod Taps
+pub mod Vectors

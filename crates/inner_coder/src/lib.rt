@@ -4,6 +4,7 @@
 #![tactic(auto)]
 
 ghost use Rattle.inner_coder.specs.Published.{SendsPublished};
+ghost use Rattle.inner_coder.specs.Vectors.{InnerVectors};
 
 pub mod coder;
 mod convolution;
@@ -13,6 +14,12 @@ mod puncturing;
 // A new inner coder sends what the clause gives, by places in the list of bits.
 pub fn inner_code_as_published() -> u8
     ensures { SendsPublished }
+{
+    0
+}
+
+pub fn inner_vectors() -> u8
+    ensures { InnerVectors }
 {
     0
 }

@@ -6,3 +6,4 @@ pub mod Published
 pub mod BitBlocks
 pub mod Digits
 pub mod Symbols
+pub mod Vectors

@@ -3,6 +3,7 @@
 #![tactic(auto)]
 
 ghost use Rattle.inner_interleaver.specs.Published.{BitsPublished, SymbolsPublished};
+ghost use Rattle.inner_interleaver.specs.Vectors.{SingleBits};
 
 use settings::{Constellation, Mode};
 
@@ -22,6 +23,13 @@ pub fn bits_as_published(constellation: Constellation) -> u8
 // A new symbol interleaver puts each word where the clause says, in even and odd symbols.
 pub fn symbols_as_published(mode: Mode, constellation: Constellation) -> u8
     ensures { SymbolsPublished mode constellation }
+{
+    0
+}
+
+// Blocks with one bit set.
+pub fn single_bits() -> u8
+    ensures { SingleBits }
 {
     0
 }

@@ -9,8 +9,8 @@ ghost use Rattle.std.specs.Prelude.{◌≡◌, [], ◌==◌};
 ghost use Rattle.tps.specs.Laws.{Identifier};
 ghost use Rattle.stage.specs.Model.{new_sending};
 ghost use Rattle.broadcast.specs.Calls.{bytes, closing_packets};
-ghost use Rattle.broadcast.specs.Line.{start as start-call, packet as packet-call, cells as cells-call, close as close-call, tps as tps-call};
-ghost use Rattle.broadcast.specs.LineSteps.{idle as idle-line, GoneThrough};
+ghost use Rattle.broadcast.specs.Line.{start as start_call, packet as packet_call, cells as cells_call, close as close_call, tps as tps_call};
+ghost use Rattle.broadcast.specs.LineSteps.{idle as idle_line, GoneThrough};
 ghost use Rattle.broadcast.specs.Claims.{HoldsOver};
 ghost use Rattle.line.specs.View.{done_by, counted_by, bytes_of, phase_of, admitted, view, Does, Continues};
 
@@ -88,7 +88,7 @@ impl<P: Stage> Line<P> {
     // start
     fn begin(&mut self, codes: &Codes) -> Result<(), Refusal>
         ensures fixed { P.Stage.model self.new.pile ≡ P.Stage.model self.old.pile }
-        ensures does { Does P.Stage.model P.Stage.sending self.old self.new (start-call codes.now) (done_by result) [] }
+        ensures does { Does P.Stage.model P.Stage.sending self.old self.new (start_call codes.now) (done_by result) [] }
     {
         self.admit(Call::Start)?;
         let settings = fit(&self.pile, codes)?;
@@ -101,7 +101,7 @@ impl<P: Stage> Line<P> {
     // packet
     fn accept(&mut self, packet: &[u8]) -> Result<(), Refusal>
         ensures fixed { P.Stage.model self.new.pile ≡ P.Stage.model self.old.pile }
-        ensures does { Does P.Stage.model P.Stage.sending self.old self.new (packet-call packet.now) (done_by result) packet.now }
+        ensures does { Does P.Stage.model P.Stage.sending self.old self.new (packet_call packet.now) (done_by result) packet.now }
     {
         self.admit(Call::Packet)?;
         let [sync, rest @ ..] = packet else {
@@ -124,7 +124,7 @@ impl<P: Stage> Line<P> {
     // cells
     fn write(&mut self, buffer: &mut [u8]) -> Result<usize, Refusal>
         ensures fixed { P.Stage.model self.new.pile ≡ P.Stage.model self.old.pile }
-        ensures does { Does P.Stage.model P.Stage.sending self.old self.new (cells-call buffer.old) (counted_by result) buffer.new }
+        ensures does { Does P.Stage.model P.Stage.sending self.old self.new (cells_call buffer.old) (counted_by result) buffer.new }
     {
         self.admit(Call::Cells)?;
         Ok(fill(&mut self.pile, &mut self.pending, buffer))
@@ -133,7 +133,7 @@ impl<P: Stage> Line<P> {
     // close
     fn finish(&mut self) -> Result<(), Refusal>
         ensures fixed { P.Stage.model self.new.pile ≡ P.Stage.model self.old.pile }
-        ensures does { Does P.Stage.model P.Stage.sending self.old self.new close-call (done_by result) [] }
+        ensures does { Does P.Stage.model P.Stage.sending self.old self.new close_call (done_by result) [] }
     {
         self.admit(Call::Close)?;
         if self.frame.begun != 0 {
@@ -149,7 +149,7 @@ impl<P: Stage> Line<P> {
 
     // tps
     fn signal(&self, frame: u8, buffer: &mut [u8]) -> Result<(), Refusal>
-        ensures { Does P.Stage.model P.Stage.sending self.now self.now (tps-call frame buffer.old) (done_by result) buffer.new }
+        ensures { Does P.Stage.model P.Stage.sending self.now self.now (tps_call frame buffer.old) (done_by result) buffer.new }
     {
         self.admit(Call::Tps)?;
         write_block(&self.frame.settings, frame, buffer)
@@ -160,7 +160,7 @@ impl<P: Stage> Line<P> {
 impl<P: Stage> Line<P> {
     pub fn new(pile: P) -> Line<P>
         ensures pile { result.pile ≡ pile }
-        ensures idle { view P.Stage.model P.Stage.sending result ≡ idle-line }
+        ensures idle { view P.Stage.model P.Stage.sending result ≡ idle_line }
         ensures begins { GoneThrough (P.Stage.model pile) [] (view P.Stage.model P.Stage.sending result) }
         ensures holds { HoldsOver (P.Stage.model pile) }
     {
@@ -176,8 +176,8 @@ impl<P: Stage> Line<P> {
     // Renews the pile and opens the line.
     pub fn start(&mut self, codes: &Codes) -> Result<(), Refusal>
         ensures fixed { P.Stage.model self.new.pile ≡ P.Stage.model self.old.pile }
-        ensures does { Does P.Stage.model P.Stage.sending self.old self.new (start-call codes.now) (done_by result) [] }
-        ensures continues { Continues P.Stage.model P.Stage.sending self.old self.new (start-call codes.now) (done_by result) [] }
+        ensures does { Does P.Stage.model P.Stage.sending self.old self.new (start_call codes.now) (done_by result) [] }
+        ensures continues { Continues P.Stage.model P.Stage.sending self.old self.new (start_call codes.now) (done_by result) [] }
         ensures holds { HoldsOver (P.Stage.model self.old.pile) }
     {
         holds(&self.pile);
@@ -188,8 +188,8 @@ impl<P: Stage> Line<P> {
     // Takes a packet, whose bytes go to the pile as its cells are asked for.
     pub fn packet(&mut self, packet: &[u8]) -> Result<(), Refusal>
         ensures fixed { P.Stage.model self.new.pile ≡ P.Stage.model self.old.pile }
-        ensures does { Does P.Stage.model P.Stage.sending self.old self.new (packet-call packet.now) (done_by result) packet.now }
-        ensures continues { Continues P.Stage.model P.Stage.sending self.old self.new (packet-call packet.now) (done_by result) packet.now }
+        ensures does { Does P.Stage.model P.Stage.sending self.old self.new (packet_call packet.now) (done_by result) packet.now }
+        ensures continues { Continues P.Stage.model P.Stage.sending self.old self.new (packet_call packet.now) (done_by result) packet.now }
         ensures holds { HoldsOver (P.Stage.model self.old.pile) }
     {
         holds(&self.pile);
@@ -199,8 +199,8 @@ impl<P: Stage> Line<P> {
     // Fills a buffer with waiting cells, as many as wait and fit, and answers the count.
     pub fn cells(&mut self, buffer: &mut [u8]) -> Result<usize, Refusal>
         ensures fixed { P.Stage.model self.new.pile ≡ P.Stage.model self.old.pile }
-        ensures does { Does P.Stage.model P.Stage.sending self.old self.new (cells-call buffer.old) (counted_by result) buffer.new }
-        ensures continues { Continues P.Stage.model P.Stage.sending self.old self.new (cells-call buffer.old) (counted_by result) buffer.new }
+        ensures does { Does P.Stage.model P.Stage.sending self.old self.new (cells_call buffer.old) (counted_by result) buffer.new }
+        ensures continues { Continues P.Stage.model P.Stage.sending self.old self.new (cells_call buffer.old) (counted_by result) buffer.new }
         ensures holds { HoldsOver (P.Stage.model self.old.pile) }
     {
         holds(&self.pile);
@@ -210,8 +210,8 @@ impl<P: Stage> Line<P> {
     // Sends a super-frame of null packets, after which the line takes no more.
     pub fn close(&mut self) -> Result<(), Refusal>
         ensures fixed { P.Stage.model self.new.pile ≡ P.Stage.model self.old.pile }
-        ensures does { Does P.Stage.model P.Stage.sending self.old self.new close-call (done_by result) [] }
-        ensures continues { Continues P.Stage.model P.Stage.sending self.old self.new close-call (done_by result) [] }
+        ensures does { Does P.Stage.model P.Stage.sending self.old self.new close_call (done_by result) [] }
+        ensures continues { Continues P.Stage.model P.Stage.sending self.old self.new close_call (done_by result) [] }
         ensures holds { HoldsOver (P.Stage.model self.old.pile) }
     {
         holds(&self.pile);
@@ -220,8 +220,8 @@ impl<P: Stage> Line<P> {
 
     // Writes the 67 bits of a frame's signalling block at the front of a buffer.
     pub fn tps(&self, frame: u8, buffer: &mut [u8]) -> Result<(), Refusal>
-        ensures does { Does P.Stage.model P.Stage.sending self.now self.now (tps-call frame buffer.old) (done_by result) buffer.new }
-        ensures continues { Continues P.Stage.model P.Stage.sending self.now self.now (tps-call frame buffer.old) (done_by result) buffer.new }
+        ensures does { Does P.Stage.model P.Stage.sending self.now self.now (tps_call frame buffer.old) (done_by result) buffer.new }
+        ensures continues { Continues P.Stage.model P.Stage.sending self.now self.now (tps_call frame buffer.old) (done_by result) buffer.new }
         ensures holds { HoldsOver (P.Stage.model self.now.pile) }
     {
         holds(&self.pile);

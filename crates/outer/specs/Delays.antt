@@ -12,3 +12,9 @@ pub record Leaves : Type 0 where
   pub later : (xs : List ℕ) (t : ℕ) → t + 204 * (t % 12) < length xs
       → slice_index (outer_interleaver.sends xs) (t + 204 * (t % 12)) ≡ slice_index xs t
   pub unreached : (xs : List ℕ) (p : ℕ) → p < 204 * (p % 12) → slice_index (outer_interleaver.sends xs) p ≡ 0
+
+-- bytes 0, 1 and 203 leave as bytes 0, 205 and 2447
+pub record LeavingVectors : Type 0 where
+  pub byte_0 : (xs : List ℕ) → 2447 < length xs → slice_index (outer_interleaver.sends xs) 0 ≡ slice_index xs 0
+  pub byte_1 : (xs : List ℕ) → 2447 < length xs → slice_index (outer_interleaver.sends xs) 205 ≡ slice_index xs 1
+  pub byte_203 : (xs : List ℕ) → 2447 < length xs → slice_index (outer_interleaver.sends xs) 2447 ≡ slice_index xs 203

@@ -13,7 +13,7 @@ use Rattle.stage.proofs.Holds.{capped_stops, capped-most, capped_grows, capped_c
 use Rattle.stage.proofs.Machine.{gives_sends, hears_from_hears, hears_from_faults}
 use Rattle.outer.specs.Branches.{Branches, Arriving, unreached, sending_depths, hearing_depths, new_branches, new_arriving, passed, passing, oldest, queue_now, sends_one, interleaved, hears_if, hears_one, arriving_after, restored, misplaced}
 use Rattle.outer.specs.OuterInterleaver.{outer_interleaver, plus_2244}
-use Rattle.outer.specs.Delays.{past, Leaves}
+use Rattle.outer.specs.Delays.{past, Leaves, LeavingVectors}
 use Rattle.outer.specs.Delaying.{Follows, past_read, past-zero, past_left, passed_is, follows_on, follows_new, leaves_all, as_many}
 use Rattle.computed.proofs.Everywhere.{every, at}
 
@@ -229,4 +229,11 @@ interleaver_rule = record {
   faults_numbered = hears_from_faults hears_one arriving_after (Numbered 1)
       (λ s y f e. numbered (misplaced s y) (nat_lt s.count 2244) (passed s.branches y) f e) new_arriving;
   law = λ xs m h k. law xs m k;
+}
+
+pub leaving_vectors : LeavingVectors
+leaving_vectors = record {
+  byte_0 = λ xs h. leaves.later xs 0 (omega arith);
+  byte_1 = λ xs h. leaves.later xs 1 (omega arith);
+  byte_203 = λ xs h. leaves.later xs 203 h;
 }

@@ -3,9 +3,9 @@
 #![tactic(auto)]
 
 ghost use Rattle.std.specs.Prelude.{◌≡◌, [], ◌∷◌};
-ghost use Rattle.outer.specs.Delays.{Leaves};
+ghost use Rattle.outer.specs.Delays.{Leaves, LeavingVectors};
 ghost use Rattle.outer.specs.Protection.{SendsCodewords, HearsCodewords};
-ghost use Rattle.outer.specs.Serializer.{serializer as serializer-model};
+ghost use Rattle.outer.specs.Serializer.{serializer as serializer_model};
 
 mod bank;
 mod branch;
@@ -28,6 +28,10 @@ pub fn bytes_leave_later()
     ensures { Leaves }
 {}
 
+pub fn interleaver_vectors()
+    ensures { LeavingVectors }
+{}
+
 pub fn serializer_vectors()
-    ensures { serializer-model.sends (0x47 ∷ 0x1F ∷ []) ≡ 0 ∷ 1 ∷ 0 ∷ 0 ∷ 0 ∷ 1 ∷ 1 ∷ 1 ∷ 0 ∷ 0 ∷ 0 ∷ 1 ∷ 1 ∷ 1 ∷ 1 ∷ 1 ∷ [] }
+    ensures { serializer_model.sends (0x47 ∷ 0x1F ∷ []) ≡ 0 ∷ 1 ∷ 0 ∷ 0 ∷ 0 ∷ 1 ∷ 1 ∷ 1 ∷ 0 ∷ 0 ∷ 0 ∷ 1 ∷ 1 ∷ 1 ∷ 1 ∷ 1 ∷ [] }
 {}

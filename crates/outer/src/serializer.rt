@@ -1,7 +1,7 @@
 // The serializer as a stage: each byte becomes eight bits, highest first.
 // Input: bytes. Output: bits.
 ghost use Rattle.std.specs.Prelude.{◌≡◌, ◌/◌, ◌%◌, ◌^◌, ◌<◌, ◌≤◌, []};
-ghost use Rattle.outer.specs.Serializer.{serializer as serializer-model, serial_sending, serial_receiving, bits_of, same, byte_of, last_bits};
+ghost use Rattle.outer.specs.Serializer.{serializer as serializer_model, serial_sending, serial_receiving, bits_of, same, byte_of, last_bits};
 ghost use Rattle.stage.specs.Model.{new_sending, new_receiving};
 ghost use Rattle.outer.specs.Serializing.{serializer_rule};
 ghost use Rattle.stage.proofs.Blocks.{blocks_sends, blocks_hears};
@@ -33,8 +33,8 @@ fn bit(byte: u8, place: u8) -> u8
 
 impl Serializer {
     pub fn new() -> Serializer
-        ensures sends { serial_sending result.byte result.left ≡ new_sending serializer-model }
-        ensures hears { serial_receiving result.bits result.have result.back ≡ new_receiving serializer-model }
+        ensures sends { serial_sending result.byte result.left ≡ new_sending serializer_model }
+        ensures hears { serial_receiving result.bits result.have result.back ≡ new_receiving serializer_model }
     {
         Serializer {
             byte: 0,
@@ -47,7 +47,7 @@ impl Serializer {
 }
 
 impl Stage for Serializer {
-    ghost model = { λ _. serializer-model };
+    ghost model = { λ _. serializer_model };
 
     ghost sending = { λ s. serial_sending s.byte s.left };
 

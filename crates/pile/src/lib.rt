@@ -6,10 +6,10 @@
 
 #![tactic(auto)]
 
-ghost use Rattle.std.specs.Prelude.{◌≡◌, false};
+ghost use Rattle.std.specs.Prelude.{◌≡◌, false, []};
 ghost use Rattle.stage.specs.Model.{new_sending, new_receiving};
 ghost use Rattle.stage.specs.Piled.{fits, piled, piled_sending, piled_receiving};
-ghost use Rattle.pile.specs.Queued.{queueing};
+ghost use Rattle.pile.specs.Queued.{units_of, queueing};
 
 use queue::Queue;
 use stage::Stage;
@@ -35,7 +35,9 @@ impl<U: Stage, L: Stage> Pile<U, L> {
         ensures upper { result.upper ≡ upper }
         ensures lower { result.lower ≡ lower }
         ensures misfit { result.misfit ≡ false }
-        ensures sends { U.Stage.sending upper ≡ new_sending (U.Stage.model upper) → L.Stage.sending lower ≡ new_sending (L.Stage.model lower) → piled_sending (U.Stage.model upper) (L.Stage.model lower) (queueing (L.Stage.model lower) result.down (U.Stage.sending upper)) (L.Stage.sending lower) ≡ new_sending (piled (U.Stage.model upper) (L.Stage.model lower)) }
+        ensures empty { units_of result.down ≡ [] }
+        ensures sends { U.Stage.sending upper ≡ new_sending (U.Stage.model upper) → L.Stage.sending lower ≡ new_sending (L.Stage.model lower) → piled_sending (U.Stage.model upper) (L.Stage.model lower) (U.Stage.sending upper) (L.Stage.sending lower) ≡ new_sending (piled (U.Stage.model upper) (L.Stage.model lower)) }
+        ensures queued { U.Stage.sending upper ≡ new_sending (U.Stage.model upper) → L.Stage.sending lower ≡ new_sending (L.Stage.model lower) → piled_sending (U.Stage.model upper) (L.Stage.model lower) (queueing (L.Stage.model lower) result.down (U.Stage.sending upper)) (L.Stage.sending lower) ≡ new_sending (piled (U.Stage.model upper) (L.Stage.model lower)) }
         ensures hears { U.Stage.receiving upper ≡ new_receiving (U.Stage.model upper) → L.Stage.receiving lower ≡ new_receiving (L.Stage.model lower) → piled_receiving false (U.Stage.model upper) (L.Stage.model lower) (U.Stage.receiving upper) (L.Stage.receiving lower) ≡ new_receiving (piled (U.Stage.model upper) (L.Stage.model lower)) }
     {
         Pile {

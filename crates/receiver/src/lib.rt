@@ -7,8 +7,8 @@
 
 ghost use Rattle.std.specs.Prelude.{◌≡◌, ◌<◌, true, false, [], Ok, nat_lt};
 ghost use Rattle.stage.specs.Model.{silence, new_receiving, answer, heard, some_heard};
-ghost use Rattle.broadcast.specs.Receiver.{next, is_some, start as start-call, hear as hear-call, collect as collect-call};
-ghost use Rattle.broadcast.specs.ReceiverSteps.{idle as idle-receiver, GoneThrough};
+ghost use Rattle.broadcast.specs.Receiver.{next, is_some, start as start_call, hear as hear_call, collect as collect_call};
+ghost use Rattle.broadcast.specs.ReceiverSteps.{idle as idle_receiver, GoneThrough};
 ghost use Rattle.broadcast.specs.Claims.{HoldsOver};
 ghost use Rattle.receiver.specs.View.{done_by, collected_by, units_of, held, found, view, Does, Continues};
 
@@ -88,7 +88,7 @@ impl<P: Stage> Receiver<P> {
     // start
     fn begin(&mut self, codes: &Codes) -> Result<(), Refusal>
         ensures fixed { P.Stage.model self.new.pile ≡ P.Stage.model self.old.pile }
-        ensures does { Does P.Stage.model P.Stage.receiving self.old self.new (start-call codes.now) (done_by result) [] }
+        ensures does { Does P.Stage.model P.Stage.receiving self.old self.new (start_call codes.now) (done_by result) [] }
     {
         if self.settings.is_some() {
             return Err(Refusal::Started);
@@ -102,7 +102,7 @@ impl<P: Stage> Receiver<P> {
     // hear
     fn accept(&mut self, cell: u8) -> Result<(), Refusal>
         ensures fixed { P.Stage.model self.new.pile ≡ P.Stage.model self.old.pile }
-        ensures does { Does P.Stage.model P.Stage.receiving self.old self.new (hear-call cell) (done_by result) [] }
+        ensures does { Does P.Stage.model P.Stage.receiving self.old self.new (hear_call cell) (done_by result) [] }
     {
         if self.settings.is_none() {
             return Err(Refusal::NotStarted);
@@ -124,7 +124,7 @@ impl<P: Stage> Receiver<P> {
     // collect
     fn hand_out(&mut self, buffer: &mut [u8]) -> Result<usize, Missed>
         ensures fixed { P.Stage.model self.new.pile ≡ P.Stage.model self.old.pile }
-        ensures does { Does P.Stage.model P.Stage.receiving self.old self.new (collect-call buffer.old) (collected_by result) buffer.new }
+        ensures does { Does P.Stage.model P.Stage.receiving self.old self.new (collect_call buffer.old) (collected_by result) buffer.new }
     {
         if self.settings.is_none() {
             return Err(Missed::Refused(Refusal::NotStarted));
@@ -148,7 +148,7 @@ impl<P: Stage> Receiver<P> {
 impl<P: Stage> Receiver<P> {
     pub fn new(pile: P) -> Receiver<P>
         ensures pile { result.pile ≡ pile }
-        ensures idle { view P.Stage.receiving result ≡ idle-receiver }
+        ensures idle { view P.Stage.receiving result ≡ idle_receiver }
         ensures begins { GoneThrough (P.Stage.model pile) [] (view P.Stage.receiving result) }
         ensures holds { HoldsOver (P.Stage.model pile) }
     {
@@ -163,8 +163,8 @@ impl<P: Stage> Receiver<P> {
     // Renews the pile and starts to listen.
     pub fn start(&mut self, codes: &Codes) -> Result<(), Refusal>
         ensures fixed { P.Stage.model self.new.pile ≡ P.Stage.model self.old.pile }
-        ensures does { Does P.Stage.model P.Stage.receiving self.old self.new (start-call codes.now) (done_by result) [] }
-        ensures continues { Continues P.Stage.model P.Stage.receiving self.old self.new (start-call codes.now) (done_by result) [] }
+        ensures does { Does P.Stage.model P.Stage.receiving self.old self.new (start_call codes.now) (done_by result) [] }
+        ensures continues { Continues P.Stage.model P.Stage.receiving self.old self.new (start_call codes.now) (done_by result) [] }
         ensures holds { HoldsOver (P.Stage.model self.old.pile) }
     {
         holds(&self.pile);
@@ -174,8 +174,8 @@ impl<P: Stage> Receiver<P> {
     // Hears one cell.
     pub fn hear(&mut self, cell: u8) -> Result<(), Refusal>
         ensures fixed { P.Stage.model self.new.pile ≡ P.Stage.model self.old.pile }
-        ensures does { Does P.Stage.model P.Stage.receiving self.old self.new (hear-call cell) (done_by result) [] }
-        ensures continues { Continues P.Stage.model P.Stage.receiving self.old self.new (hear-call cell) (done_by result) [] }
+        ensures does { Does P.Stage.model P.Stage.receiving self.old self.new (hear_call cell) (done_by result) [] }
+        ensures continues { Continues P.Stage.model P.Stage.receiving self.old self.new (hear_call cell) (done_by result) [] }
         ensures holds { HoldsOver (P.Stage.model self.old.pile) }
     {
         holds(&self.pile);
@@ -185,8 +185,8 @@ impl<P: Stage> Receiver<P> {
     // Collects a packet into 188 bytes: answers 188 with one, and 0 with none.
     pub fn collect(&mut self, buffer: &mut [u8]) -> Result<usize, Missed>
         ensures fixed { P.Stage.model self.new.pile ≡ P.Stage.model self.old.pile }
-        ensures does { Does P.Stage.model P.Stage.receiving self.old self.new (collect-call buffer.old) (collected_by result) buffer.new }
-        ensures continues { Continues P.Stage.model P.Stage.receiving self.old self.new (collect-call buffer.old) (collected_by result) buffer.new }
+        ensures does { Does P.Stage.model P.Stage.receiving self.old self.new (collect_call buffer.old) (collected_by result) buffer.new }
+        ensures continues { Continues P.Stage.model P.Stage.receiving self.old self.new (collect_call buffer.old) (collected_by result) buffer.new }
         ensures holds { HoldsOver (P.Stage.model self.old.pile) }
     {
         holds(&self.pile);

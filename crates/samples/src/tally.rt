@@ -1,6 +1,6 @@
 // Checks are counted, and each is told in a line.
 ghost use Rattle.std.specs.Prelude.{◌≡◌, IfOk, string_bytes};
-ghost use Rattle.samples.specs.Tally.{counted, line as line-text, summary as summary-text};
+ghost use Rattle.samples.specs.Tally.{counted, line as line_text, summary as summary_text};
 ghost use Rattle.std.specs.Str.{bytes_eq};
 
 use std::alloc::{AllocError, Global};
@@ -41,7 +41,7 @@ impl Tally {
     }
 
     pub fn summary(&self, heap: Global) -> Result<String, AllocError>
-        ensures { IfOk result (λ text. string_bytes text ≡ summary-text self.now) }
+        ensures { IfOk result (λ text. string_bytes text ≡ summary_text self.now) }
     {
         let checks = self.checks;
         let differ = self.differ;
@@ -57,7 +57,7 @@ pub fn line(
     found: &str,
     expected: &str,
 ) -> Result<String, AllocError>
-    ensures { IfOk result (λ text. string_bytes text ≡ line-text name.now same found.now expected.now) }
+    ensures { IfOk result (λ text. string_bytes text ≡ line_text name.now same found.now expected.now) }
 {
     if same {
         format!(in heap; "{name}: ok\n")

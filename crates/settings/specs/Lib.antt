@@ -5,4 +5,6 @@ pub mod Rate
 pub mod Guard
 pub mod Codes
 pub mod SuperFrame
+pub mod Hold
 pub mod Record
+pub mod Sheet

@@ -9,7 +9,7 @@ use super::mode::Mode;
 use super::rate::Rate;
 use refusal::Refusal;
 
-#[derive(Clone, Copy)]
+#[derive(Clone, Copy, PartialEq, Eq, Debug)]
 pub struct Codes {
     pub mode: u8,
     pub constellation: u8,

@@ -4,7 +4,7 @@ ghost use Rattle.settings.specs.Constellation.{constellation_read, constellation
 
 use refusal::Refusal;
 
-#[derive(Clone, Copy)]
+#[derive(Clone, Copy, PartialEq, Eq, Debug)]
 pub enum Constellation {
     Qpsk,
     Qam16,

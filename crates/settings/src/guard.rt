@@ -4,7 +4,7 @@ ghost use Rattle.settings.specs.Guard.{guard_read, guard_code};
 
 use refusal::Refusal;
 
-#[derive(Clone, Copy)]
+#[derive(Clone, Copy, PartialEq, Eq, Debug)]
 pub enum Guard {
     ThirtySecond,
     Sixteenth,

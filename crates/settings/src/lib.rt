@@ -5,9 +5,11 @@
 pub mod codes;
 pub mod constellation;
 pub mod guard;
+pub mod hold;
 pub mod mode;
 pub mod rate;
 pub mod record;
+pub mod sheet;
 pub mod super_frame;
 #[cfg(test)]
 mod tests;
@@ -17,8 +19,9 @@ pub use constellation::Constellation;
 pub use guard::Guard;
 pub use mode::Mode;
 pub use rate::Rate;
+pub use sheet::Sheet;
 
-#[derive(Clone, Copy)]
+#[derive(Clone, Copy, PartialEq, Eq, Debug)]
 pub struct Settings {
     pub mode: Mode,
     pub constellation: Constellation,

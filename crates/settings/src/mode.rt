@@ -4,7 +4,7 @@ ghost use Rattle.settings.specs.Mode.{mode_read, mode_code, symbol_cells};
 
 use refusal::Refusal;
 
-#[derive(Clone, Copy)]
+#[derive(Clone, Copy, PartialEq, Eq, Debug)]
 pub enum Mode {
     TwoK,
     EightK,

@@ -4,7 +4,7 @@ ghost use Rattle.settings.specs.Rate.{rate_read, rate_code, rate_over, rate_unde
 
 use refusal::Refusal;
 
-#[derive(Clone, Copy)]
+#[derive(Clone, Copy, PartialEq, Eq, Debug)]
 pub enum Rate {
     Half,
     TwoThirds,

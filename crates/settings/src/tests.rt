@@ -1,5 +1,5 @@
-// Each refusal of a record, in its order.
-use super::Settings;
+// Sheets of records by hand, and each refusal of a record in its order.
+use super::Sheet;
 
 // Mode, constellation, rate and guard, each with a code that is none, and then a bad record of ten bytes: the numbers that refuse them.
 const REFUSED: [([u8; 10], u8); 8] = [
@@ -13,19 +13,33 @@ const REFUSED: [([u8; 10], u8); 8] = [
     ([0, 8, 1, 2, 0, 0, 0, 0, 0, 1], 18),
 ];
 
-fn refused_with(bytes: &[u8]) -> u8 {
-    match Settings::from_record(bytes) {
-        Ok(_) => 0,
-        Err(refusal) => refusal.number(),
+fn sheet_or_number(bytes: &[u8]) -> (u32, u32, u32) {
+    match Sheet::of(bytes) {
+        Ok(sheet) => (sheet.packets, sheet.cells, sheet.hold),
+        Err(refusal) => (0, 0, u32::from(refusal.number())),
     }
+}
+
+#[test]
+fn sheets(rt: HostRuntime) {
+    assert_eq!(rt;
+        sheet_or_number(&[0, 8, 1, 0, 0, 0, 0, 0, 0, 0]),
+        (252, 411264, 3250)
+    );
+    assert_eq!(rt;
+        sheet_or_number(&[0, 8, 1, 1, 2, 4, 3, 1, 255, 255]),
+        (5292, 1645056, 11690)
+    );
+    assert_eq!(rt; sheet_or_number(&[0, 8, 1, 0, 0, 0, 0, 0, 0]), (0, 0, 18));
+    assert_eq!(rt;
+        sheet_or_number(&[0, 8, 1, 0, 0, 0, 0, 0, 0, 0, 0]),
+        (0, 0, 18)
+    );
 }
 
 #[test]
 fn refusals(rt: HostRuntime) {
     for (record, number) in REFUSED {
-        assert_eq!(rt; refused_with(&record), number);
+        assert_eq!(rt; sheet_or_number(&record), (0, 0, u32::from(number)));
     }
-    assert_eq!(rt; refused_with(&[0, 8, 1, 0, 0, 0, 0, 0, 0]), 18);
-    assert_eq!(rt; refused_with(&[0, 8, 1, 0, 0, 0, 0, 0, 0, 0, 0]), 18);
-    assert_eq!(rt; refused_with(&[0, 8, 1, 0, 0, 0, 0, 0, 0, 0]), 0);
 }

@@ -2,8 +2,8 @@
 use Rattle.std.specs.Prelude.{ℕ, List, [], ◌∷◌, ◌++◌, Ok, Err, codes, decimal, Result}
 use Rattle.refusal.specs.declared.Refusal.{Refusal}
 use Rattle.refusal.specs.Numbers.{number_of}
-use Rattle.sheet.specs.declared.sheet.Sheet.{Sheet}
-use Rattle.sheet.specs.Sheet.{sheet_of}
+use Rattle.settings.specs.declared.sheet.Sheet.{Sheet}
+use Rattle.settings.specs.Sheet.{sheet_of}
 
 -- a word, a blank, a number and the end of the line, and then the rest
 abbrev pub line : List ℕ → ℕ → List ℕ → List ℕ

@@ -3,9 +3,6 @@
 #![tactic(auto)]
 
 mod report;
-mod sheet;
-#[cfg(test)]
-mod tests;
 
 use report::report;
 use std::io;

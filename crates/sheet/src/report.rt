@@ -2,7 +2,7 @@
 ghost use Rattle.std.specs.Prelude.{◌≡◌, IfOk, string_bytes};
 ghost use Rattle.sheet.specs.Report.{report_of};
 
-use super::sheet::Sheet;
+use settings::Sheet;
 use std::alloc::{AllocError, Global};
 
 pub(crate) fn report(heap: Global, input: &[u8]) -> Result<String, AllocError>

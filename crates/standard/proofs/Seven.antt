@@ -18,7 +18,6 @@ use Rattle.outer.specs.Serializing.{serializer_rule}
 use Rattle.inner_coder.specs.Coding as coding
 use Rattle.inner_interleaver.specs.BitBlocks.{bit_rule}
 use Rattle.inner_interleaver.specs.Symbols.{symbol_rule}
-use Rattle.standard.specs.Hold.{hold_for}
 use Rattle.standard.specs.Pile.{model_for, StandardHolds}
 
 -- words of v bits fit the symbol interleaver, so bytes go all the way
@@ -82,7 +81,7 @@ room_at : (m : Mode) (c : Constellation) (r : Rate) → room m c r ≡ true
 room_at m c r = each_rate (room m c) (each_constellation (λ c. at_rates (room m c)) (each_mode (λ m. at_constellations (λ c. at_rates (room m c))) rooms m) c) r
 
 pub standard_holds_lem : StandardHolds
-unfolding model_for hold_for
+unfolding model_for
 standard_holds_lem s = record {
   takes_bytes = takes_at s.mode s.constellation s.rate;
   gives_words = gives_at s.mode s.constellation s.rate;

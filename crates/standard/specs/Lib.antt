@@ -1,3 +1,2 @@
-pub mod Hold
 pub mod Pile
 pub mod Parts

@@ -16,7 +16,7 @@ use Rattle.outer.specs.Serializer.{serializer}
 use Rattle.inner_coder.specs.Coder.{inner_code}
 use Rattle.inner_interleaver.specs.BitInterleaver.{bit_interleaving}
 use Rattle.inner_interleaver.specs.SymbolInterleaver.{symbol_interleaving}
-use Rattle.standard.specs.Hold.{standard_hold}
+use Rattle.settings.specs.Hold.{standard_hold}
 
 -- from the symbol interleaver up
 abbrev pub words_for : Mode → Constellation → Model

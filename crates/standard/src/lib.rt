@@ -4,7 +4,7 @@
 #![tactic(auto)]
 
 ghost use Rattle.std.specs.Prelude.{◌≡◌};
-ghost use Rattle.standard.specs.Hold.{standard_hold};
+ghost use Rattle.settings.specs.Hold.{standard_hold};
 ghost use Rattle.standard.specs.Pile.{words_for, coded_for, serialized_for, delayed_for, protected_for, standard_model, StandardHolds};
 ghost use Rattle.standard.specs.Parts.{IsNew, words, coded, serialized, delayed, protected, seven_stages};
 

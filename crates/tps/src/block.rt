@@ -1,7 +1,7 @@
 // The TPS block of a frame (EN 300 744, clause 4.6.2): settings and a frame from 1 to 4 in, the bits s1 to s67 out, one to a byte.
 ghost use Rattle.std.specs.Prelude.{◌≡◌, ◌≤◌};
 ghost use Rattle.refusal.specs.Numbers.{refused_by};
-ghost use Rattle.tps.specs.Block.{synchronisation, length_indicator, identifier_byte, fields as fields-of, refused, after};
+ghost use Rattle.tps.specs.Block.{synchronisation, length_indicator, identifier_byte, fields as fields_of, refused, after};
 
 use super::field::{Field, write_all};
 use super::protection::remainder;
@@ -51,7 +51,7 @@ fn byte_of(frame: u8, identifier: Option<u16>) -> u32
 // Table 9, s1 to s53.
 fn fields(settings: &Settings, frame: u8) -> [Field; 11]
     requires { 1 ≤ frame }
-    ensures { result ≡ fields-of settings.now frame }
+    ensures { result ≡ fields_of settings.now frame }
 {
     [
         Field::new(16, synchronisation_word(frame)),

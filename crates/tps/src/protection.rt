@@ -1,13 +1,13 @@
 // The protection of a TPS block (EN 300 744, clause 4.6.2.11): bits in, that of the highest power first, the remainder by h(x) out.
 ghost use Rattle.std.specs.Prelude.{◌≡◌, ◌<◌};
 ghost use Rattle.std.specs.List.{AllByRecursion as All};
-ghost use Rattle.tps.specs.Protection.{reduced as reduced-of, remainder_from};
+ghost use Rattle.tps.specs.Protection.{reduced as reduced_of, remainder_from};
 
 // h(x) = x^14 + x^9 + x^8 + x^6 + x^5 + x^4 + x^2 + x + 1.
 const GENERATOR: u32 = 0b100_0011_0111_0111;
 
 fn reduced(n: u32) -> u32
-    ensures { result ≡ reduced-of n }
+    ensures { result ≡ reduced_of n }
 {
     if n >= 1 << 14 { n ^ GENERATOR } else { n }
 }

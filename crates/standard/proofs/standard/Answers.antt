@@ -11,6 +11,6 @@ returns c =
     let s = c.args.settings.now in
     let lower : IsNew protected c.make_protected-protected.result (protected_for s.mode s.constellation s.rate) = c.make_protected-protected.ensures in
     new_over dispersing protected c.new-dispersal.result c.make_protected-protected.result c.new.result energy_dispersal _
-    c.new.ensures.upper c.new.ensures.lower c.new.ensures.misfit c.new.ensures.sends c.new.ensures.hears
+    c.new.ensures.upper c.new.ensures.lower c.new.ensures.misfit c.new.ensures.queued c.new.ensures.hears
     (record { model = refl; sends = c.new-dispersal.ensures.sends; hears = c.new-dispersal.ensures.hears })
     lower

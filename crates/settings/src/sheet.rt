@@ -1,17 +1,16 @@
 // The sheet of a settings record: what the settings give a crew to plan with.
 ghost use Rattle.std.specs.Prelude.{◌≡◌};
-ghost use Rattle.sheet.specs.Sheet.{sheet_of};
+ghost use Rattle.settings.specs.Sheet.{sheet_of};
 
+use super::Settings;
 use refusal::Refusal;
-use settings::Settings;
-use standard::hold;
 
 #[derive(Clone, Copy)]
-pub(crate) struct Sheet {
+pub struct Sheet {
     // In a super-frame.
     pub packets: u32,
     pub cells: u32,
-    // Of the standard pile, with no cell missing.
+    // Of the standard coder, with no cell missing.
     pub hold: u32,
 }
 
@@ -23,7 +22,7 @@ impl Sheet {
         Ok(Sheet {
             packets: settings.packets(),
             cells: settings.cells(),
-            hold: hold(&settings, 0),
+            hold: settings.hold(0),
         })
     }
 }

@@ -1,11 +1,18 @@
--- The hold of the standard pile: of the bytes sent, how many at most are not back yet while the last m cells are unheard.
-use Rattle.std.specs.Prelude.{ℕ, ◌+◌, ◌-◌, ◌*◌, ◌/◌}
+-- Holds: of what a stage was sent, how many units at most are not back yet while the last m of what it gave are unheard.
+use Rattle.std.specs.Prelude.{ℕ, ◌+◌, ◌-◌, ◌*◌, ◌/◌, min, cond, nat_le}
 use Rattle.settings.specs.declared.Settings.{Settings}
 use Rattle.settings.specs.declared.mode.Mode.{Mode}
 use Rattle.settings.specs.declared.constellation.Constellation.{Constellation}
 use Rattle.settings.specs.Mode.{symbol_cells}
 use Rattle.settings.specs.Constellation.{word_bits}
-use Rattle.stage.specs.Rule.{capped}
+
+-- where holds stop
+abbrev pub most : ℕ
+most = 4294967295
+
+-- a formula's hold: it stops, and from where it stops on it is full, whatever the formula gives
+abbrev pub capped : (ℕ → ℕ) → ℕ → ℕ
+capped formula m = cond (nat_le most m) most (min (formula m) most)
 
 abbrev pub dispersal_hold : ℕ → ℕ
 dispersal_hold = capped (λ m. m)
@@ -29,10 +36,7 @@ abbrev pub symbol_interleaver_hold : Mode → ℕ → ℕ
 symbol_interleaver_hold n = capped (λ m. m + 2 * symbol_cells n - 2)
 
 -- an upper stage's hold is of the lower one's
-unfoldable pub hold_for : Mode → Constellation → ℕ → ℕ
-hold_for n k m =
-    dispersal_hold (outer_coder_hold (outer_interleaver_hold (serializer_hold (inner_coder_hold
-    (bit_interleaver_hold k (symbol_interleaver_hold n m))))))
-
 abbrev pub standard_hold : Settings → ℕ → ℕ
-standard_hold s m = hold_for s.mode s.constellation m
+standard_hold s m =
+    dispersal_hold (outer_coder_hold (outer_interleaver_hold (serializer_hold (inner_coder_hold
+    (bit_interleaver_hold s.constellation (symbol_interleaver_hold s.mode m))))))

@@ -1,7 +1,7 @@
 use Rattle.std.proofs.Common.{refl}
 use Rattle.address.specs.Address.{addresses_of}
-use Rattle.address.proofs.laws.recomputed.Goals as goal
+use Rattle.address.proofs.laws.published.Goals as goal
 
 pub returns : goal.returns
 unfolding addresses_of
-returns c = (refl, refl)
+returns c = record { begins = (refl, refl); whole = (refl, refl) }
