@@ -17,9 +17,8 @@ mod text;
 
 use job::Job;
 use perform::perform;
-use std::env;
-use std::io;
 use std::process::ExitCode;
+use std::{env, io};
 use stop::Stop;
 
 fn run(rt: &HostRuntime) -> Result<(), Stop> {

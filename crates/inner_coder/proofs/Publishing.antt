@@ -1,5 +1,5 @@
 -- The register holds the last seven bits, so what is sent is what is published.
-use Rattle.std.proofs.Common.{◌≡◌, ℕ, suc, ◌+◌, ◌-◌, ◌*◌, ◌/◌, ◌%◌, ◌<◌, ◌≤◌, eqb, leb, List, [], ◌∷◌, ◌++◌, reverse, length, get_or, sym, refl, ap, ◌∙◌, ap₂, inl, inr, append_assoc, mod-lt, mod-eq_of_lt, arith, lit≤}
+use Rattle.std.proofs.Common.{◌≡◌, ℕ, suc, ◌+◌, ◌-◌, ◌*◌, ◌/◌, ◌%◌, ◌<◌, eqb, leb, List, [], ◌∷◌, ◌++◌, reverse, length, get_or, sym, refl, ap, ◌∙◌, ap₂, inl, inr, append_assoc, mod-lt, mod-eq_of_lt, arith, lit≤}
 use lib.Count.{ones}
 use native.Mathlib.Nat.{mod-add-mod, mod_self, zero-mod}
 use Rattle.std.proofs.ByRecursion.{All-get_or}
@@ -13,7 +13,7 @@ use Rattle.inner_coder.specs.declared.puncturing.Sent.{Sent}
 use Rattle.inner_coder.specs.declared.puncturing.Sent.TheVariants.{Both, X, Y}
 use Rattle.inner_coder.specs.Puncturing.{sent_at, onward, period}
 use Rattle.inner_coder.specs.Convolution.{x_of, y_of, shifted, emitted, coded}
-use Rattle.inner_coder.specs.Published.{ago, x_at, y_at, chosen, units_at, published, SendsPublished}
+use Rattle.inner_coder.specs.Published.{ago, x_at, y_at, chosen, units_at, SendsPublished}
 use Rattle.inner_coder.specs.Vectors.{InnerVectors}
 use Rattle.inner_coder.specs.Taps.{x_is, y_is}
 

@@ -1,5 +1,5 @@
 -- The symbol interleaver keeps the stage rule, and puts each word where the clause says.
-use Rattle.std.specs.Prelude.{◌≡◌, ℕ, ◌+◌, ◌-◌, ◌^◌, ◌<◌, ◌≤◌, List, [], ◌++◌, length, slice_index}
+use Rattle.std.specs.Prelude.{◌≡◌, ℕ, ◌^◌, ◌<◌, ◌≤◌, List, [], ◌++◌, length, slice_index}
 use Rattle.std.proofs.Common.{lit≤, inl, inr, ap, ◌∙◌, arith}
 use Rattle.std.proofs.lemmas.Nat.{pow_pos}
 use Rattle.std.proofs.ByRecursion.{All-get_or, All-from_get_or}

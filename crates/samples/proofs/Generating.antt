@@ -1,5 +1,5 @@
 -- The generator, a step at a time.
-use Rattle.std.proofs.Common.{◌≡◌, ℕ, zero, suc, ◌+◌, ◌-◌, ◌≤◌, refl, ap, arith}
+use Rattle.std.proofs.Common.{◌≡◌, ℕ, zero, suc, ◌-◌, ◌≤◌, refl, ap, arith}
 use Rattle.samples.specs.Generator.{stepped, shown, after, byte_at}
 
 pub next : (x k : ℕ) → 1 ≤ k → stepped (after (k - 1) x) ≡ after k x

@@ -1,7 +1,6 @@
 -- Packets that come back, held to those that were sent.
 use Rattle.std.specs.Prelude.{ℕ, ◌+◌, Bool, true, cond, ◌&&◌, List, nat_lt}
 use Rattle.std.specs.Str.{bytes_eq}
-use Rattle.samples.specs.declared.generator.Generator.{Generator}
 use Rattle.samples.specs.declared.returns.Returns.{Returns}
 use Rattle.samples.specs.Generator.{after, packet_from}
 

@@ -1,5 +1,5 @@
 -- What a bench measures, value by value: each field has its input and its output spelled out.
-use Rattle.std.specs.Prelude.{◌≡◌, ℕ, ◌<◌, List, [], ◌∷◌, length, take, set, replicate, Option, slice_index, slice_set}
+use Rattle.std.specs.Prelude.{◌≡◌, ℕ, ◌<◌, List, [], ◌∷◌, length, take, replicate, Option, slice_index, slice_set}
 use Rattle.settings.specs.declared.Settings.{Settings}
 use Rattle.settings.specs.declared.mode.Mode.TheVariants.{TwoK, EightK}
 use Rattle.settings.specs.declared.constellation.Constellation.{Constellation}

@@ -1,4 +1,4 @@
-use Rattle.std.proofs.Common.{◌≡◌, ◌-◌, ◌≤◌, ◌++◌, length, get_or, take, drop, sym, refl, ap, ◌∙◌, ap₂, arith, length-drop, length-take}
+use Rattle.std.proofs.Common.{◌≡◌, ◌-◌, ◌≤◌, ◌++◌, length, get_or, take, drop, refl, ap, ◌∙◌, ap₂, arith, length-drop, length-take}
 use Rattle.settings.specs.declared.rate.Rate.{Rate}
 use Rattle.stage.proofs.Feeding.{fed_none}
 use Rattle.stage.proofs.Machine.{gives_sends}

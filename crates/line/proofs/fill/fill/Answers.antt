@@ -2,7 +2,6 @@ use Rattle.std.proofs.Common.{◌≡◌, ◌+◌, ◌≤◌, [], ◌++◌, lengt
 use Rattle.stage.specs.Model.{Sending, fed}
 use Rattle.stage.proofs.Passing.{gives_of, gives_then, room_left, passes_of}
 use Rattle.broadcast.specs.Calls.{bytes, null_packet}
-use Rattle.line.specs.View.{bytes_of}
 use Rattle.line.proofs.Filling.{handed-on, fewer, none_pending, none_fed, filled_by}
 use Rattle.line.proofs.fill.fill.Goals as goal
 

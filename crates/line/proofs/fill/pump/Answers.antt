@@ -1,4 +1,4 @@
-use Rattle.std.proofs.Common.{◌≡◌, ℕ, sym, ap, ◌∙◌, arith}
+use Rattle.std.proofs.Common.{◌≡◌, sym, ap, ◌∙◌, arith}
 use Rattle.stage.specs.Model.{Sending, fed, some}
 use Rattle.line.specs.View.{bytes_of, dropped}
 use Rattle.line.proofs.fill.pump.Goals as goal

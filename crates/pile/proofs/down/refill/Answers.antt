@@ -1,4 +1,4 @@
-use Rattle.std.proofs.Common.{◌≡◌, ◌<◌, List, length, sym, ap, ◌∙◌, subst, arith}
+use Rattle.std.proofs.Common.{◌<◌, length, sym, ap, ◌∙◌, subst, arith}
 use Rattle.stage.specs.Model.{ahead}
 use Rattle.stage.specs.Rule.{Under}
 use Rattle.pile.proofs.Queueing.{given_to}

@@ -1,4 +1,4 @@
-use Rattle.std.proofs.Common.{◌≡◌, ◌+◌, length}
+use Rattle.std.proofs.Common.{◌≡◌, length}
 use Rattle.stage.specs.Piled.{joined_receiving}
 use Rattle.pile.proofs.settle.settle_up.Given as goal
 

@@ -1,4 +1,4 @@
-use Rattle.std.proofs.Common.{◌≡◌, ◌<◌, sym, ap, ◌∙◌, arith}
+use Rattle.std.proofs.Common.{◌<◌, sym, ap, ◌∙◌, arith}
 use Rattle.stage.specs.Model.{Receiving}
 use Rattle.receiver.specs.View.{units_of, held}
 use Rattle.receiver.proofs.Collecting.{set_to, hear_busy, hear_does}

@@ -1,4 +1,4 @@
-use Rattle.std.proofs.Common.{◌≡◌, Bool, true, ltb, [], length, get_or, drop, is_err, sym, refl, ap, ◌∙◌, arith}
+use Rattle.std.proofs.Common.{◌≡◌, Bool, true, ltb, [], get_or, drop, is_err, sym, refl, ap, ◌∙◌, arith}
 use Rattle.std.proofs.lemmas.List.{drop_all}
 use Rattle.stage.specs.Model.{Sending, some, answer}
 use Rattle.stage.specs.Piled.{fitting}

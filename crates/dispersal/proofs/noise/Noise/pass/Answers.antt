@@ -21,11 +21,11 @@ invariant_of-self c =
     record {
       within = omega (arith, c.next_place-place.ensures);
       runs = elim c.if-place-eq0.branch [
-          | then-place-eq0 w ↦ w.register-is ∙ sym (before-first next w.if-place-eq0.true)
-          | else-place-eq0 w ↦
-              let on : s.place + 1 ≡ next = omega (arith, c.next_place-place.ensures, w.if-place-eq0.false) in
-              w.register-is ∙ w.moved-register.ensures ∙ ap (moved_on s.place) s.runs ∙ sym (before-next s.place) ∙ ap before on
-        ];
+        | then-place-eq0 w ↦ w.register-is ∙ sym (before-first next w.if-place-eq0.true)
+        | else-place-eq0 w ↦
+            let on : s.place + 1 ≡ next = omega (arith, c.next_place-place.ensures, w.if-place-eq0.false) in
+            w.register-is ∙ w.moved-register.ensures ∙ ap (moved_on s.place) s.runs ∙ sym (before-next s.place) ∙ ap before on
+      ];
     }
 
 pub returns : goal.returns

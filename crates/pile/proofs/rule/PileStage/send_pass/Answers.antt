@@ -1,5 +1,5 @@
 use Rattle.std.proofs.Common.{◌≡◌, true, false, sym, refl, ap, ◌∙◌, ap₂, subst₂}
-use Rattle.stage.specs.Model.{Model, Sending, new_sending}
+use Rattle.stage.specs.Model.{Sending, new_sending}
 use Rattle.stage.specs.Passing.{Passes}
 use Rattle.stage.specs.Piled.{fits, if_fits, piled, joined_sending, piled_sending}
 use Rattle.stage.proofs.Passing.{none_passes}

@@ -1,4 +1,4 @@
-use Rattle.std.proofs.Common.{◌≡◌, ◌/◌, ◌<◌, false, cond, length, get_or, refl, ap, ◌∙◌, subst, ap₂}
+use Rattle.std.proofs.Common.{◌≡◌, ◌/◌, ◌<◌, false, length, get_or, refl, ap, ◌∙◌, ap₂}
 use Rattle.std.proofs.lemmas.Bool.{lt-ltb}
 use Rattle.stage.proofs.Offers.{accepted}
 use Rattle.stage.specs.Model.{some_heard}

@@ -1,4 +1,4 @@
-use Rattle.std.proofs.Common.{sym, refl, ◌∙◌}
+use Rattle.std.proofs.Common.{refl}
 use Rattle.inner_interleaver.specs.SymbolInterleaver.{encode}
 use Rattle.inner_interleaver.proofs.SymbolSides.{waits_side}
 use Rattle.inner_interleaver.proofs.symbol_interleaver.rule.SymbolInterleaverStage.send_waits.Goals as goal
