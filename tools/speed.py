@@ -1,7 +1,7 @@
 #!/usr/bin/env python3
 """How fast the bench tool sends and receives, in Mbit of transport stream for each second of CPU time, best of several runs.
 
-    speed.py [PROGRAM] [RUNS]    (target/bin/bench and 5 unless said; prove and build it first by examples/run)
+    speed.py [PROGRAM] [RUNS]    (crates/bench/out/bench and 5 unless said; prove and build it first by examples/run)
 
 Two settings: 8K, 64-QAM, 7/8, which carries most, and 2K, QPSK, 1/2, which has most cells to a packet. Run it on an idle machine.
 """
@@ -12,7 +12,7 @@ import subprocess
 import sys
 import tempfile
 
-PROGRAM = sys.argv[1] if len(sys.argv) > 1 else "target/bin/bench"
+PROGRAM = sys.argv[1] if len(sys.argv) > 1 else "crates/bench/out/bench"
 RUNS = int(sys.argv[2]) if len(sys.argv) > 2 else 5
 # name, codes of mode, constellation and rate, packets in a super-frame, super-frames
 SETTINGS = [("8K 64-QAM 7/8", (1, 2, 4), 5292, 4), ("2K QPSK 1/2", (0, 0, 0), 252, 20)]

@@ -1,6 +1,6 @@
 -- What holds of broadcasts over every pile of stages, in one, and what the machines of line and receiver go.
 use Rattle.std.proofs.Common.{◌≡◌, List, [], ◌∷◌, ◌++◌, sym, refl, subst}
-use Rattle.std.specs.List.{AllByRecursion as All}
+use Rattle.std.specs.List.{AllByRecursion}
 use Rattle.tps.specs.Laws.{BlocksTellSettings}
 use Rattle.stage.specs.Model.{Model}
 use Rattle.stage.specs.Rule.{Rule, Same}
@@ -41,7 +41,7 @@ holds_over b M m = record {
   everywhere = broadcasts_hold_lem b;
 }
 
-every : {C : Type 0} (cs : List C) → All (λ (c : C). Unit {0}) cs
+every : {C : Type 0} (cs : List C) → AllByRecursion (λ (c : C). Unit {0}) cs
 every [] = tt
 every (c ∷ cs) = (tt, every cs)
 

@@ -2,7 +2,7 @@
 use Rattle.std.proofs.Common.{◌≡◌, ℕ, ◌+◌, ◌*◌, ◌/◌, ◌%◌, ◌<◌, ◌≤◌, ◌⊎◌, List, [], ◌∷◌, ◌++◌, length, sym, refl, ap, ◌∙◌, subst, inl, inr, mul-le-mul_left, arith, length-append}
 use native.Mathlib.Nat.{div-add-mod}
 use lib.ListN.{length-replicate}
-use Rattle.std.specs.List.{flat_map, AllByRecursion as All}
+use Rattle.std.specs.List.{flat_map, AllByRecursion}
 use Rattle.std.proofs.lemmas.Bool.{cases_lt}
 use Rattle.std.proofs.ByRecursion.{All-append}
 use Rattle.tps.specs.Laws.{BlocksTellSettings}
@@ -34,7 +34,7 @@ multiples k a b e f h = go (cases_lt (b / k) (a / k))
         omega (arith, div-add-mod a k, div-add-mod b k)
 
 -- packets from their bytes
-pub packets_same : (ps qs : List (List ℕ)) → All Packet ps → All Packet qs → length ps ≡ length qs → bytes ps ≡ bytes qs → ps ≡ qs
+pub packets_same : (ps qs : List (List ℕ)) → AllByRecursion Packet ps → AllByRecursion Packet qs → length ps ≡ length qs → bytes ps ≡ bytes qs → ps ≡ qs
 packets_same [] [] a b h e = refl
 packets_same [] (q ∷ qs) a b h e = absurd (omega arith)
 packets_same (p ∷ ps) [] a b h e = absurd (omega arith)
@@ -44,7 +44,7 @@ packets_same (p ∷ ps) (q ∷ qs) a b h e =
     cc (r.0, f)
 
 -- what the packets and the closing packets come to
-pub sent-length : (s : Settings) (ps : List (List ℕ)) → All Packet ps
+pub sent-length : (s : Settings) (ps : List (List ℕ)) → AllByRecursion Packet ps
     → length (bytes ps ++ bytes (closing_packets s)) ≡ 188 * length ps + 188 * super_frame_packets s
 sent-length s ps a =
     omega (
@@ -55,18 +55,18 @@ sent-length s ps a =
       length-replicate (super_frame_packets s) null_packet,
     )
 
-pub sent_below : (M : Model) (s : Settings) → Fit M s → (ps : List (List ℕ)) → All Packet ps → Under M.taken (bytes ps ++ bytes (closing_packets s))
+pub sent_below : (M : Model) (s : Settings) → Fit M s → (ps : List (List ℕ)) → AllByRecursion Packet ps → Under M.taken (bytes ps ++ bytes (closing_packets s))
 sent_below M s f ps a =
     subst (λ (k : ℕ). Under k (bytes ps ++ bytes (closing_packets s))) (sym f.takes_bytes)
     (All-append (λ x. x < 256) (bytes ps) (bytes (closing_packets s)) (bytes_below ps a) (bytes_below (closing_packets s) (closing_are_packets s)))
 
 module _ (M : Model) (m : Rule M) (s : Settings) (f : Fit M s) where
   -- what is heard of all that was sent
-  heard_all : (ps : List (List ℕ)) → All Packet ps
+  heard_all : (ps : List (List ℕ)) → AllByRecursion Packet ps
       → Back M (bytes ps ++ bytes (closing_packets s)) 0 (M.hears (without_last 0 (M.sends (bytes ps ++ bytes (closing_packets s)))))
   heard_all ps a = m.law (bytes ps ++ bytes (closing_packets s)) 0 (sent_below M s f ps a) (omega arith)
 
-  cells_tell : (ps qs : List (List ℕ)) → All Packet ps → All Packet qs → length ps % super_frame_packets s ≡ 0 → length qs % super_frame_packets s ≡ 0
+  cells_tell : (ps qs : List (List ℕ)) → AllByRecursion Packet ps → AllByRecursion Packet qs → length ps % super_frame_packets s ≡ 0 → length qs % super_frame_packets s ≡ 0
       → M.sends (bytes ps ++ bytes (closing_packets s)) ≡ M.sends (bytes qs ++ bytes (closing_packets s)) → ps ≡ qs
   cells_tell ps qs a b c d e =
       let end : List ℕ = bytes (closing_packets s) in

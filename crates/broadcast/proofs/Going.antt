@@ -1,6 +1,6 @@
 -- A machine that answers by what was accepted goes exactly the successions.
 use Rattle.std.proofs.Common.{◌≡◌, ℕ, List, [], ◌∷◌, ◌++◌, sym, refl, ap, ◌∙◌, subst, append_assoc, append-nil, arith}
-use Rattle.std.specs.List.{AllByRecursion as All}
+use Rattle.std.specs.List.{AllByRecursion}
 use Rattle.broadcast.specs.Calls.{Event, calls_of, SuccessionBy}
 use Rattle.broadcast.specs.Steps.{Outcome, event, run, state_after, Went}
 
@@ -65,7 +65,7 @@ pub record Answering {C S : Type 0} (Follows : List (Event C) → Event C → Ty
 module _ {C S : Type 0} {Follows : List (Event C) → Event C → Type 0} {step : S → C → Outcome S} {new : S} {Typed : C → Type 0}
     {Inv : List (Event C) → S → Type 0} (g : Answering Follows step new Typed Inv)
   where
-    run-from : (pre : List (Event C)) (s : S) (cs : List C) → All Typed cs → Inv pre s → SuccessionBy Follows pre → SuccessionBy Follows (pre ++ run step s cs)
+    run-from : (pre : List (Event C)) (s : S) (cs : List C) → AllByRecursion Typed cs → Inv pre s → SuccessionBy Follows pre → SuccessionBy Follows (pre ++ run step s cs)
     run-from pre s [] t i k = subst (SuccessionBy Follows) (sym (append-nil pre)) k
     run-from pre s (c ∷ cs) t i k =
         let e : Event C = event c (step s c) in
@@ -73,7 +73,7 @@ module _ {C S : Type 0} {Follows : List (Event C) → Event C → Type 0} {step 
         (run-from (pre ++ (e ∷ [])) (step s c).state cs t.1 (g.goes pre s c t.0 i) (succession_push Follows pre e k (g.does pre s c t.0 i)))
 
     -- what the machine answers is a succession
-    pub runs : (cs : List C) → All Typed cs → SuccessionBy Follows (run step new cs)
+    pub runs : (cs : List C) → AllByRecursion Typed cs → SuccessionBy Follows (run step new cs)
     runs cs t = run-from [] new cs t g.starts (succession_none Follows)
 
     only_from : (pre : List (Event C)) (s : S) (es : List (Event C)) → Inv pre s → Goes_on Follows pre es

@@ -1,6 +1,6 @@
 -- What a receiver hands out, of a broadcast that it hears.
 use Rattle.std.proofs.Common.{◌≡◌, ℕ, ◌-◌, ◌<◌, ◌≤◌, Bool, true, false, cond, not, eqb, ltb, List, [], ◌∷◌, ◌++◌, length, get_or, take, Some, None, Option, sym, refl, ap, ◌∙◌, subst, arith, length-append}
-use Rattle.std.specs.List.{flat_map, AllByRecursion as All}
+use Rattle.std.specs.List.{flat_map, AllByRecursion}
 use Rattle.std.proofs.lemmas.Bool.{ltb-false, lt-ltb, eq-eqb}
 use Rattle.std.proofs.lemmas.List.{append_assoc}
 use Rattle.std.proofs.ByRecursion.{All-append}
@@ -31,7 +31,7 @@ next_front g q u gs qs a b p =
 
 -- packets that were handed out, of a list of packets whose bytes begin with theirs
 module _ (u : List ℕ) where
-  pub front_packets : (gs qs : List (List ℕ)) → All Sized gs → All Packet qs → Begins (bytes gs ++ u) (bytes qs) → Begins gs qs
+  pub front_packets : (gs qs : List (List ℕ)) → AllByRecursion Sized gs → AllByRecursion Packet qs → Begins (bytes gs ++ u) (bytes qs) → Begins gs qs
   front_packets [] qs a b p = (qs, refl)
   front_packets (g ∷ gs) [] a b p =
       let k = begins_length ((g ++ bytes gs) ++ u) [] p in
@@ -42,7 +42,7 @@ module _ (u : List ℕ) where
       (f.0, cc (r.0, f.1))
 
   -- the bytes after them begin with 47 hex
-  next_sync : (gs qs : List (List ℕ)) → All Sized gs → All Packet qs → Begins (bytes gs ++ u) (bytes qs) → 188 ≤ length u → get_or u 0 0 ≡ 0x47
+  next_sync : (gs qs : List (List ℕ)) → AllByRecursion Sized gs → AllByRecursion Packet qs → Begins (bytes gs ++ u) (bytes qs) → 188 ≤ length u → get_or u 0 0 ≡ 0x47
   next_sync [] [] a b p k = let l = begins_length u [] p in absurd (omega arith)
   next_sync [] (q ∷ qs) a b p k = heads u q (bytes qs) b.0 p k
     where
@@ -62,14 +62,14 @@ heard-append (e ∷ es) ds =
     ∙ sym (append_assoc (heard_by e.call e.answer) (heard_of es) (heard_of ds))
 
 -- what is so of each element is so of all
-all_each : {X : Type 0} (P : X → Type 0) (xs : List X) → ((before : List X) (x : X) (later : List X) → xs ≡ before ++ (x ∷ later) → P x) → All P xs
+all_each : {X : Type 0} (P : X → Type 0) (xs : List X) → ((before : List X) (x : X) (later : List X) → xs ≡ before ++ (x ∷ later) → P x) → AllByRecursion P xs
 all_each P [] k = tt
 all_each P (x ∷ xs) k =
     (k [] x xs refl, all_each P xs (λ before y later q. k (x ∷ before) y later (ap {B = List _} (λ (w : List _). x ∷ w) q)))
 
 -- Cells, of which each front is heard without a fault as the front of the bytes of packets.
 record Sent_by (M : Model) (cs : List ℕ) (qs : List (List ℕ)) : Type 0 where
-  are_packets : All Packet qs
+  are_packets : AllByRecursion Packet qs
   no_fault : (hs : List ℕ) → Begins hs cs → (M.hears hs).fault ≡ None
   in_front : (hs : List ℕ) → Begins hs cs → Begins (M.hears hs).units (bytes qs)
 
@@ -194,7 +194,7 @@ receivers_recover r t k j h a = record {
     sent : Sent_by N (cells r) (all_packets r)
     sent = record {
       are_packets =
-          subst (λ (v : List (List ℕ)). All Packet v) (sym (all_are r w.set w.took.one))
+          subst (λ (v : List (List ℕ)). AllByRecursion Packet v) (sym (all_are r w.set w.took.one))
           (All-append Packet (packets r) (closing_packets w.set) w.took.are_packets (closing_are_packets w.set));
       no_fault = λ hs p. sym (ap (λ (x : Heard). x.fault) (same-heard hs p)) ∙ (law_at hs p).clean;
       in_front = λ hs p.

@@ -2,7 +2,7 @@
 -- goes exactly the successions.
 use Rattle.std.proofs.Common.{◌≡◌, ℕ, ◌+◌, ◌%◌, Bool, true, false, cond, not, ◌||◌, eqb, List, [], ◌∷◌, ◌++◌, length, get_or, take, drop, Some, None, Ok, Err, Option, Result, sym, refl, ap, ◌∙◌, subst, arith, take-append-drop, length-take}
 use native.Mathlib.Nat.{zero-mod, mod-add-mod}
-use Rattle.std.specs.List.{flat_map, AllByRecursion as All}
+use Rattle.std.specs.List.{flat_map, AllByRecursion}
 use Rattle.std.proofs.lemmas.Bool.{eqb-true, not-false}
 use Rattle.std.proofs.lemmas.List.{append-nil, append_assoc, take_at, drop_at, length_push, flat_map_more}
 use Rattle.std.proofs.ByRecursion.{All-push}
@@ -35,7 +35,7 @@ pub record Accepted (M : Model) (s : Settings) (ss : List Settings) (ps : List (
   pub one : ss ≡ s ∷ []
   pub identified : Identifier s.identifier
   pub fit : Fit M s
-  pub are_packets : All Packet ps
+  pub are_packets : AllByRecursion Packet ps
 
 pub record Opened (M : Model) (s : Settings) (n : ℕ) (side : Sending) (ss : List Settings) (ps : List (List ℕ)) (ys : List ℕ) (b : Bool) : Type 0 where
   pub took : Accepted M s ss ps

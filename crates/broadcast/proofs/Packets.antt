@@ -1,6 +1,6 @@
 -- Packets and their bytes, and what start has checked.
 use Rattle.std.proofs.Common.{◌≡◌, ℕ, zero, suc, ◌*◌, ◌<◌, ◌≤◌, Bool, true, false, not, ◌||◌, eqb, leb, List, [], ◌∷◌, ◌++◌, length, get_or, replicate, None, Ok, Option, sym, refl, ap, ◌∙◌, mul-le-mul_left, div-le_self, arith, lit<, lit≤, length-append}
-use Rattle.std.specs.List.{AllByRecursion as All}
+use Rattle.std.specs.List.{AllByRecursion}
 use Rattle.std.proofs.lemmas.Bool.{eqb-true, leb-false, not-false, or_parts}
 use Rattle.std.proofs.lemmas.List.{append-nil, append_assoc}
 use Rattle.std.proofs.ByRecursion.{All-append}
@@ -84,18 +84,18 @@ bytes_append (p ∷ ps) qs = ap (λ (w : List ℕ). p ++ w) (bytes_append ps qs)
 pub bytes_push : (ps : List (List ℕ)) (p : List ℕ) → bytes (ps ++ (p ∷ [])) ≡ bytes ps ++ p
 bytes_push ps p = bytes_append ps (p ∷ []) ∙ ap (λ (w : List ℕ). bytes ps ++ w) (append-nil p)
 
-pub bytes_below : (ps : List (List ℕ)) → All Packet ps → Under 256 (bytes ps)
+pub bytes_below : (ps : List (List ℕ)) → AllByRecursion Packet ps → Under 256 (bytes ps)
 bytes_below [] h = tt
 bytes_below (p ∷ ps) h = All-append (λ x. x < 256) p (bytes ps) h.0.units (bytes_below ps h.1)
 
-pub bytes_length : (ps : List (List ℕ)) → All Packet ps → length (bytes ps) ≡ 188 * length ps
+pub bytes_length : (ps : List (List ℕ)) → AllByRecursion Packet ps → length (bytes ps) ≡ 188 * length ps
 bytes_length [] h = refl
 bytes_length (p ∷ ps) h =
     let w = h.0.whole in
     let r = bytes_length ps h.1 in
     omega (arith, length-append p (bytes ps))
 
-all_replicate : (P : List ℕ → Type 0) (n : ℕ) (p : List ℕ) → P p → All P (replicate n p)
+all_replicate : (P : List ℕ → Type 0) (n : ℕ) (p : List ℕ) → P p → AllByRecursion P (replicate n p)
 all_replicate P zero p h = tt
 all_replicate P (suc n) p h = (h, all_replicate P n p h)
 
@@ -111,5 +111,5 @@ null_is_packet = record {
   units = (lit< tt, (lit< tt, (lit< tt, (lit< tt, below_replicate 256 184 255 (lit< tt)))));
 }
 
-pub closing_are_packets : (s : Settings) → All Packet (closing_packets s)
+pub closing_are_packets : (s : Settings) → AllByRecursion Packet (closing_packets s)
 closing_are_packets s = all_replicate Packet (super_frame_packets s) null_packet null_is_packet

@@ -1,7 +1,7 @@
 -- A receiver after any succession of calls: the packets that it handed out and the bytes that wait are what the new pile gives for the cells heard, so
 -- that its machine goes exactly the successions.
 use Rattle.std.proofs.Common.{◌≡◌, ℕ, ◌*◌, ◌<◌, ◌≤◌, Bool, true, false, cond, not, eqb, ltb, List, [], ◌∷◌, ◌++◌, length, get_or, take, drop, Some, None, Ok, Err, Option, Result, sym, refl, ap, ◌∙◌, subst, arith, length-append, take-append-drop}
-use Rattle.std.specs.List.{AllByRecursion as All}
+use Rattle.std.specs.List.{AllByRecursion}
 use Rattle.std.proofs.lemmas.Bool.{ltb-true, ltb-false}
 use Rattle.std.proofs.lemmas.List.{append-nil, append_assoc, length-take-le, drop_at, flat_map_more}
 use Rattle.std.proofs.ByRecursion.{All-push}
@@ -26,7 +26,7 @@ use Rattle.broadcast.proofs.Going.{Answering}
 abbrev pub Sized : List ℕ → Type 0
 Sized p = length p ≡ 188
 
-pub sized_bytes : (gs : List (List ℕ)) → All Sized gs → length (bytes gs) ≡ 188 * length gs
+pub sized_bytes : (gs : List (List ℕ)) → AllByRecursion Sized gs → length (bytes gs) ≡ 188 * length gs
 sized_bytes [] a = refl
 sized_bytes (g ∷ gs) a = let r = sized_bytes gs a.1 in omega (arith, a.0, length-append g (bytes gs))
 
@@ -46,7 +46,7 @@ none_next h e =
 
 -- the side was told hs, and the packets gs of what it gave for that were handed out
 pub record Tells (M : Model) (hs : List ℕ) (gs : List (List ℕ)) (side : Receiving) : Type 0 where
-  pub are_whole : All Sized gs
+  pub are_whole : AllByRecursion Sized gs
   pub gave : bytes gs ++ side.waits.units ≡ (M.hears hs).units
   pub fault_is : side.waits.fault ≡ (M.hears hs).fault
   pub goes_on : side.future ≡ after_heard M.hears hs
@@ -260,12 +260,12 @@ module _ (M : Model) where
 
 -- what was handed out, and what is kept, is what the pile gave
 pub record Keeps (M : Model) (es : List (Event Call)) : Type 0 where
-  pub are_whole : All Sized (packets_of es)
+  pub are_whole : AllByRecursion Sized (packets_of es)
   pub gave : bytes (packets_of es) ++ (kept M es).units ≡ (M.hears (heard_of es)).units
 
 pub keeps : (M : Model) → Rule M → (es : List (Event Call)) (r : Receiver) → Inv M es r → Keeps M es
 keeps M m es idle i = record {
-  are_whole = subst (λ (w : List (List ℕ)). All Sized w) (sym i.2) tt;
+  are_whole = subst (λ (w : List (List ℕ)). AllByRecursion Sized w) (sym i.2) tt;
   gave = ap (λ (w : List (List ℕ)). bytes w ++ (kept_of M (heard_of es) w).units) i.2;
 }
 keeps M m es (tuned s side) i = record {

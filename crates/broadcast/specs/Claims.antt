@@ -1,7 +1,7 @@
 -- What holds of every broadcast, over every pile that keeps the rule. Nothing here speaks of how a line or a receiver works: a succession is any list of
 -- events, each of which follows from what was accepted before it.
 use Rattle.std.specs.Prelude.{◌≡◌, ℕ, min, Bool, true, false, ◌↔◌, List, [], ◌∷◌, ◌++◌, None}
-use Rattle.std.specs.List.{flat_map, AllByRecursion as All}
+use Rattle.std.specs.List.{flat_map, AllByRecursion}
 use Rattle.settings.specs.declared.codes.Codes.{Codes}
 use Rattle.settings.specs.declared.Settings.{Settings}
 use Rattle.stage.specs.Model.{Model}
@@ -100,7 +100,7 @@ hear_answer true false = done
 -- It tells no fault and takes every cell. What it hands out begins the accepted and the closing packets, and has every accepted one once all cells are
 -- heard and nothing waits.
 pub record Received (t : Reception) (r : Transmission) : Type 0 where
-  pub no_fault : All (λ (e : Event receiver.Call). receiver.Faultless e.answer) t.events
+  pub no_fault : AllByRecursion (λ (e : Event receiver.Call). receiver.Faultless e.answer) t.events
   pub takes_next : (cell : ℕ) (e : Event receiver.Call) → Begins (heard t ++ (cell ∷ [])) (cells r)
       → e.call ≡ receiver.hear cell → receiver.Follows t.over t.events e
       → e.answer ≡ hear_answer (is_started (receiver.settings_of t.events)) (something_waits t)

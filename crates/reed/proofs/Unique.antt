@@ -6,7 +6,7 @@ use Rattle.reed.specs.Code.{Bytes, ZeroAtRoots}
 use Rattle.computed.proofs.Everywhere.{both_left, both_right, every, at}
 use Rattle.reed.proofs.Linear.{Additive, agree, product-xor, product-zero, product_low, value-sums, value-append, length-sums, same-from-xor, swap}
 use Rattle.reed.proofs.Sizes.{product_byte, power_byte, bytes_sums, value_byte}
-use Rattle.std.specs.List.{AllByRecursion as All}
+use Rattle.std.specs.List.{AllByRecursion}
 
 -- ---- two roots
 
@@ -86,7 +86,7 @@ bytes_quotient r a [] hr ha h = tt
 bytes_quotient r a (x ∷ xs) hr ha h = (ha, bytes_quotient r (bit_xor (product r a) x) xs hr (xor_lt 8 (product r a) x (product_byte r a hr) h.0) h.1)
 
 abbrev Zeros : List ℕ → Type 0
-Zeros xs = All (λ x. x ≡ 0) xs
+Zeros xs = AllByRecursion (λ x. x ≡ 0) xs
 
 -- quotient and remainder zero: the polynomial is zero
 zeros_back : (r a : ℕ) (xs : List ℕ) → Zeros (quotient r a xs) → value_after r a xs ≡ 0 → Zeros (a ∷ xs)

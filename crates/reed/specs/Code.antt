@@ -1,7 +1,7 @@
 -- The outer code of EN 300 744, clause 4.3.2: Reed–Solomon (204,188), shortened from (255,239).
 use Rattle.std.specs.Prelude.{◌≡◌, ℕ, zero, suc, ◌<◌, List, [], ◌∷◌, ◌++◌, length, drop, replicate, fold, bit_xor, slice_index}
 use Rattle.reed.specs.Field.{power, sums, scaled, value}
-use Rattle.std.specs.List.{AllByRecursion as All}
+use Rattle.std.specs.List.{AllByRecursion}
 
 -- (x + λ⁰)(x + λ¹) .. , n factors: x times the polynomial, and λⁿ times it
 unfoldable pub factors : ℕ → List ℕ
@@ -25,7 +25,7 @@ unfoldable pub remainder : List ℕ → List ℕ
 remainder message = fold stepped (replicate 16 0) message
 
 abbrev pub Bytes : List ℕ → Type 0
-Bytes xs = All (λ x. x < 256) xs
+Bytes xs = AllByRecursion (λ x. x < 256) xs
 
 -- zero at the powers 0 to 15 of λ
 abbrev pub ZeroAtRoots : List ℕ → Type 0

@@ -1,6 +1,6 @@
 -- A record is read exactly as the codes, and the settings, that it is written for.
 use Rattle.std.proofs.Common.{◌≡◌, ℕ, ◌+◌, ◌*◌, ◌/◌, ◌%◌, ◌<◌, true, cond, ◌&&◌, ◌||◌, eqb, List, [], ◌∷◌, length, get_or, Some, None, Ok, Err, Option, sym, refl, ap, ◌∙◌, inl, inr, div-add-mod', arith, eqb-true}
-use Rattle.std.specs.List.{AllByRecursion as All}
+use Rattle.std.specs.List.{AllByRecursion}
 use Rattle.std.proofs.ByRecursion.{All-get_or}
 use Rattle.std.proofs.lemmas.Slice.Eq.{text_from_reads}
 use Rattle.std.proofs.lemmas.Bool.{cases_Bool, cond-true, cond-false, and_parts, or_cases}
@@ -33,7 +33,7 @@ part_is f h l small t =
           cc (eqb-true f 0 off, eqb-true h 0 high, eqb-true l 0 low)
     ]
 
-module _ (bs : List ℕ) (bytes : All (λ b. b < 256) bs) where
+module _ (bs : List ℕ) (bytes : AllByRecursion (λ b. b < 256) bs) where
   whole : (headed bs && flagged bs) ≡ true → bs ≡ record_of (codes_in bs)
   whole t =
       let (head, flag) = and_parts (headed bs) (flagged bs) t in

@@ -1,6 +1,6 @@
 -- The settings record: what is written for codes, and which codes a list of bytes is read as.
 use Rattle.std.specs.Prelude.{◌≡◌, ℕ, ◌+◌, ◌*◌, ◌/◌, ◌%◌, ◌<◌, Bool, cond, ◌&&◌, ◌||◌, ◌↔◌, List, [], ◌∷◌, length, Some, None, Ok, Err, Option, Result, ◌==◌, ◌≢◌, slice_index}
-use Rattle.std.specs.List.{AllByRecursion as All}
+use Rattle.std.specs.List.{AllByRecursion}
 use Rattle.refusal.specs.declared.Refusal.{Refusal}
 use Rattle.refusal.specs.declared.Refusal.TheVariants.{RecordMalformed}
 use Rattle.settings.specs.declared.Settings.{Settings}
@@ -42,6 +42,6 @@ settings_from bs = and_then (record_read bs) settings_read
 
 -- Codes and settings are read from exactly the bytes that are written for them, so a record has one meaning; all else is malformed.
 pub record RecordsStand : Type 0 where
-  pub codes_back : (bs : List ℕ) (c : Codes) → All (λ b. b < 256) bs → (record_read bs ≡ Ok c) ↔ (bs ≡ record_of c)
-  pub settings_back : (bs : List ℕ) (s : Settings) → All (λ b. b < 256) bs → (settings_from bs ≡ Ok s) ↔ (bs ≡ record_of (settings_codes s))
-  pub malformed : (bs : List ℕ) → All (λ b. b < 256) bs → ((c : Codes) → bs ≢ record_of c) → settings_from bs ≡ Err RecordMalformed
+  pub codes_back : (bs : List ℕ) (c : Codes) → AllByRecursion (λ b. b < 256) bs → (record_read bs ≡ Ok c) ↔ (bs ≡ record_of c)
+  pub settings_back : (bs : List ℕ) (s : Settings) → AllByRecursion (λ b. b < 256) bs → (settings_from bs ≡ Ok s) ↔ (bs ≡ record_of (settings_codes s))
+  pub malformed : (bs : List ℕ) → AllByRecursion (λ b. b < 256) bs → ((c : Codes) → bs ≢ record_of c) → settings_from bs ≡ Err RecordMalformed

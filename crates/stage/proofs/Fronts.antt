@@ -1,6 +1,6 @@
 -- Lists that begin others, and lists of units below a number.
 use Rattle.std.proofs.Common.{◌≡◌, ℕ, ◌-◌, ◌<◌, ◌≤◌, List, [], ◌∷◌, ◌++◌, length, take, drop, sym, refl, ap, ◌∙◌, subst, not-suc-le-zero, arith, length-append, take-append-drop}
-use Rattle.std.specs.List.{AllByRecursion as All}
+use Rattle.std.specs.List.{AllByRecursion}
 use Rattle.std.proofs.lemmas.List.{append-nil, append_assoc, take_at, drop_at}
 use Rattle.std.proofs.ByRecursion.{All-weaker}
 use Rattle.stage.specs.Rule.{Under, Begins, without_last}
@@ -48,16 +48,16 @@ module _ {A : Type 0} where
     sym (drop_at xs vs (length xs) refl) ∙ ap (drop (length xs)) e ∙ drop_at ys ws (length xs) (sym h),
   )
 
-  pub all_left : (P : A → Type 0) (xs ys : List A) → All P (xs ++ ys) → All P xs
+  pub all_left : (P : A → Type 0) (xs ys : List A) → AllByRecursion P (xs ++ ys) → AllByRecursion P xs
   all_left P [] ys h = tt
   all_left P (x ∷ xs) ys h = (h.0, all_left P xs ys h.1)
 
-  pub all_right : (P : A → Type 0) (xs ys : List A) → All P (xs ++ ys) → All P ys
+  pub all_right : (P : A → Type 0) (xs ys : List A) → AllByRecursion P (xs ++ ys) → AllByRecursion P ys
   all_right P [] ys h = h
   all_right P (x ∷ xs) ys h = all_right P xs ys h.1
 
-  pub all_begins : (P : A → Type 0) (xs ys : List A) → Begins xs ys → All P ys → All P xs
-  all_begins P xs ys p h = all_left P xs p.0 (subst (λ (w : List A). All P w) p.1 h)
+  pub all_begins : (P : A → Type 0) (xs ys : List A) → Begins xs ys → AllByRecursion P ys → AllByRecursion P xs
+  all_begins P xs ys p h = all_left P xs p.0 (subst (λ (w : List A). AllByRecursion P w) p.1 h)
 
   -- the beginning of a list is the list without its last few elements
   pub begins_without : (xs ys : List A) → Begins xs ys → xs ≡ without_last (length ys - length xs) ys

@@ -10,7 +10,7 @@
 --   Same M N          the stages with the models M and N are the same
 --   capped formula    the hold that a formula gives, with the stop
 use Rattle.std.specs.Prelude.{◌≡◌, ℕ, ◌+◌, ◌-◌, ◌^◌, ◌<◌, ◌≤◌, min, cond, ◌⊎◌, List, [], ◌++◌, length, take, Some, None, nat_le}
-use Rattle.std.specs.List.{AllByRecursion as All}
+use Rattle.std.specs.List.{AllByRecursion}
 use Rattle.stage.specs.declared.Fault.{Fault}
 use Rattle.stage.specs.Model.{Heard, Model, and_then, silence}
 
@@ -21,7 +21,7 @@ abbrev pub Alphabet : ℕ → Type 0
 Alphabet n = (n ≡ 0) ⊎ ((k : ℕ) × (1 ≤ k) × (k ≤ 8) × (n ≡ 2 ^ k))
 
 abbrev pub Under : ℕ → List ℕ → Type 0
-Under n xs = All (λ x. x < n) xs
+Under n xs = AllByRecursion (λ x. x < n) xs
 
 abbrev pub Begins {ℓ} : {A : Type ℓ} → List A → List A → Type ℓ
 Begins {A} p w = (rest : List A) × (w ≡ p ++ rest)

@@ -1,6 +1,6 @@
 -- The bits of a number: how many, each 0 or 1, and they tell the number.
 use Rattle.std.proofs.Common.{◌≡◌, ℕ, zero, suc, ◌/◌, ◌%◌, ◌^◌, ◌<◌, List, [], ◌∷◌, length, refl, arith}
-use Rattle.std.specs.List.{AllByRecursion as All}
+use Rattle.std.specs.List.{AllByRecursion}
 use Rattle.std.proofs.lemmas.List.{same_from_push, length_push}
 use Rattle.std.proofs.ByRecursion.{All-push, All-append}
 use Rattle.tps.specs.declared.field.Field.{Field}
@@ -17,10 +17,10 @@ bits-same (suc w) n m h k e =
     let q = bits-same w (n / 2) (m / 2) (omega arith) (omega arith) p.0 in
     omega (arith, p.1)
 
-pub bits_binary : (w n : ℕ) → All (λ b. b < 2) (bits w n)
+pub bits_binary : (w n : ℕ) → AllByRecursion (λ b. b < 2) (bits w n)
 bits_binary zero n = tt
 bits_binary (suc w) n = All-push (λ b. b < 2) (bits w (n / 2)) (n % 2) (bits_binary w (n / 2)) (omega arith)
 
-pub sent_binary : (fs : List Field) → All (λ b. b < 2) (sent fs)
+pub sent_binary : (fs : List Field) → AllByRecursion (λ b. b < 2) (sent fs)
 sent_binary [] = tt
 sent_binary (f ∷ fs) = All-append (λ b. b < 2) (bits f.width f.value) (sent fs) (bits_binary f.width f.value) (sent_binary fs)

@@ -1,7 +1,7 @@
 -- Long division by h leaves less than x^14.
 use Rattle.std.proofs.Common.{◌≡◌, ℕ, ◌+◌, ◌-◌, ◌*◌, ◌^◌, ◌<◌, ◌≤◌, leb, List, [], ◌∷◌, sym, ap, ◌∙◌, arith}
 use lib.Bits.{bit_xor, xor_block}
-use Rattle.std.specs.List.{AllByRecursion as All}
+use Rattle.std.specs.List.{AllByRecursion}
 use Rattle.std.proofs.lemmas.Nat.{xor_lt}
 use Rattle.std.proofs.lemmas.Bool.{cond_both, leb-true, leb-false}
 use Rattle.tps.specs.Protection.{generator, reduced, remainder_from}
@@ -18,6 +18,6 @@ pub reduced_less : (n : ℕ) → n < 2 ^ 15 → reduced n < 2 ^ 14
 reduced_less n k =
     cond_both (leb (2 ^ 14) n) (bit_xor n generator) n (λ v. v < 2 ^ 14) (λ e. taken_off n (leb-true (2 ^ 14) n e) k) (λ e. leb-false (2 ^ 14) n e)
 
-pub remainder_less : (bs : List ℕ) (r : ℕ) → All (λ b. b < 2) bs → r < 2 ^ 14 → remainder_from r bs < 2 ^ 14
+pub remainder_less : (bs : List ℕ) (r : ℕ) → AllByRecursion (λ b. b < 2) bs → r < 2 ^ 14 → remainder_from r bs < 2 ^ 14
 remainder_less [] r a h = h
 remainder_less (b ∷ bs) r a h = remainder_less bs (reduced (2 * r + b)) a.1 (reduced_less (2 * r + b) (omega (arith, a.0)))

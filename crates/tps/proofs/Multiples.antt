@@ -1,7 +1,7 @@
 -- A block is a multiple of h, and no other 67 bits that begin like it are one.
 use Rattle.std.proofs.Common.{◌≡◌, ℕ, zero, suc, ◌+◌, ◌*◌, ◌/◌, ◌%◌, ◌^◌, ◌<◌, ◌≤◌, Bool, true, false, cond, not, leb, ◌⊎◌, List, [], ◌∷◌, ◌++◌, length, take, drop, sym, refl, ap, ◌∙◌, subst, ap₂, inl, inr, append_assoc, mul_assoc, pow-suc, arith, lit<, lit≤, length-append, length-drop, take-append-drop}
 use lib.Bits.{bit_xor, xor_comm, xor_assoc, xor_self, xor_zero_l, xor_zero_r, xor_block, xor_shifted}
-use Rattle.std.specs.List.{AllByRecursion as All}
+use Rattle.std.specs.List.{AllByRecursion}
 use Rattle.std.proofs.lemmas.Nat.{xor_lt}
 use Rattle.std.proofs.lemmas.List.{append-nil}
 use Rattle.std.proofs.ByRecursion.{All-append, All-drop}
@@ -43,7 +43,7 @@ brought_down true p m =
     ∙ interchange generator generator p m ∙ ap (bit_xor (bit_xor generator p)) (xor_comm generator m)
 brought_down false p m = ap (λ v. bit_xor v m) (sym (xor_zero_l p))
 
-divided : (bs : List ℕ) (n r : ℕ) (q : List Bool) → All (λ b. b < 2) bs → n ≡ bit_xor (product q generator) r
+divided : (bs : List ℕ) (n r : ℕ) (q : List Bool) → AllByRecursion (λ b. b < 2) bs → n ≡ bit_xor (product q generator) r
     → (q' : List Bool) × (polynomial_from n bs ≡ bit_xor (product q' generator) (remainder_from r bs))
 divided [] n r q a e = (q, e)
 divided (b ∷ bs) n r q a e =
@@ -68,13 +68,13 @@ polynomial-bits (suc w) n v h =
       ap (λ v. n * v) (pow-suc 2 w) ∙ sym (mul_assoc n (2 ^ w) 2),
     )
 
-polynomial_less : (bs : List ℕ) (k n : ℕ) → All (λ b. b < 2) bs → n < 2 ^ k → polynomial_from n bs < 2 ^ (k + length bs)
+polynomial_less : (bs : List ℕ) (k n : ℕ) → AllByRecursion (λ b. b < 2) bs → n < 2 ^ k → polynomial_from n bs < 2 ^ (k + length bs)
 polynomial_less [] k n a h = let e : k ≡ k + 0 = omega arith in subst (λ j. n < 2 ^ j) e h
 polynomial_less (b ∷ bs) k n a h =
     let e : suc k + length bs ≡ k + suc (length bs) = omega arith in
     subst (λ j. polynomial_from (2 * n + b) bs < 2 ^ j) e (polynomial_less bs (suc k) (2 * n + b) a.1 (omega (arith, a.0)))
 
-bits-polynomial : (bs : List ℕ) (k n : ℕ) → All (λ b. b < 2) bs → bits (k + length bs) (polynomial_from n bs) ≡ bits k n ++ bs
+bits-polynomial : (bs : List ℕ) (k n : ℕ) → AllByRecursion (λ b. b < 2) bs → bits (k + length bs) (polynomial_from n bs) ≡ bits k n ++ bs
 bits-polynomial [] k n a = let e : k + 0 ≡ k = omega arith in ap (λ j. bits j n) e ∙ sym (append-nil (bits k n))
 bits-polynomial (b ∷ bs) k n a =
     let e : k + suc (length bs) ≡ suc k + length bs = omega arith in
@@ -124,7 +124,7 @@ least (b ∷ q) = go b (product q generator) (least q)
     go true p (inr h) = inr (high generator p (lit< tt) h)
     go false p (inr h) = inr (high 0 p (lit< tt) h)
 
-module _ (I : List ℕ) (sized : length I ≡ 53) (binary : All (λ b. b < 2) I) where
+module _ (I : List ℕ) (sized : length I ≡ 53) (binary : AllByRecursion (λ b. b < 2) I) where
   abbrev R : ℕ
   R = remainder_from 0 (I ++ bits 14 0)
 
@@ -154,7 +154,7 @@ module _ (I : List ℕ) (sized : length I ≡ 53) (binary : All (λ b. b < 2) I)
   pub block_only : (bs : List ℕ) → Codeword bs → take 53 bs ≡ I → bs ≡ I ++ bits 14 R
   block_only bs c e =
       let t = drop 53 bs in
-      let a : All (λ b. b < 2) t = All-drop (λ b. b < 2) 53 bs c.binary in
+      let a : AllByRecursion (λ b. b < 2) t = All-drop (λ b. b < 2) 53 bs c.binary in
       let l : 0 + length t ≡ 14 = omega (arith, length-drop 53 bs, c.sized) in
       let T = polynomial t in
       let T_less : T < 2 ^ 14 = subst (λ j. T < 2 ^ j) l (polynomial_less t 0 0 a (lit< tt)) in

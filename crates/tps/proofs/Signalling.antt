@@ -1,6 +1,6 @@
 -- A block is written: its fields, zeros in the place of the parity, and then the parity.
 use Rattle.std.proofs.Common.{◌≡◌, ℕ, ◌<◌, ◌≤◌, List, ◌++◌, length, take, drop, None, sym, refl, ap, ◌∙◌, arith, length-append}
-use Rattle.std.specs.List.{AllByRecursion as All}
+use Rattle.std.specs.List.{AllByRecursion}
 use Rattle.std.proofs.lemmas.List.{take_at, drop_at, append_assoc}
 use Rattle.std.proofs.ByRecursion.{All-append}
 use Rattle.std.proofs.lemmas.Bool.{le-leb}
@@ -16,7 +16,7 @@ pub information-length : (s : Settings) (frame : ℕ) → length (information s 
 unfolding information
 information-length s frame = refl
 
-pub information_binary : (s : Settings) (frame : ℕ) → All (λ b. b < 2) (information s frame)
+pub information_binary : (s : Settings) (frame : ℕ) → AllByRecursion (λ b. b < 2) (information s frame)
 unfolding information
 information_binary s frame = sent_binary (fields s frame)
 
@@ -39,7 +39,7 @@ module _ (s : Settings) (frame : ℕ) (B b0 b1 : List ℕ) (e0 : b0 ≡ informat
   pub spaced_front : take 67 b1 ≡ I ++ bits 14 0
   spaced_front = ap (take 67) spaced ∙ take_at (I ++ bits 14 0) (drop 67 B) 67 spaced_length
 
-  pub spaced_binary : All (λ b. b < 2) (I ++ bits 14 0)
+  pub spaced_binary : AllByRecursion (λ b. b < 2) (I ++ bits 14 0)
   spaced_binary = All-append (λ b. b < 2) I (bits 14 0) (information_binary s frame) (bits_binary 14 0)
 
   pub block_written : (r : ℕ) (b2 : List ℕ) → r ≡ remainder_from 0 (take 67 b1) → b2 ≡ put (field 14 r) 53 b1 → b2 ≡ block s frame ++ drop 67 B

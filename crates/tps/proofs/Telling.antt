@@ -1,6 +1,6 @@
 -- Blocks tell their fields, and the fields of frames 1 and 2 the settings.
 use Rattle.std.proofs.Common.{◌≡◌, ℕ, ◌/◌, ◌%◌, ◌^◌, ◌<◌, ◌≤◌, List, [], ◌∷◌, ◌++◌, map, length, get_or, take, drop, Some, None, Ok, Option, sym, refl, ap, ◌∙◌, subst, arith, lit<, lit≤}
-use Rattle.std.specs.List.{AllByRecursion as All}
+use Rattle.std.specs.List.{AllByRecursion}
 use Rattle.std.proofs.lemmas.List.{take_at, drop_at}
 use Rattle.std.proofs.lemmas.Bool.{cond_both}
 use Rattle.settings.specs.declared.Settings.{Settings}
@@ -40,7 +40,7 @@ Room f = f.value < 2 ^ f.width
 abbrev widths : List Field → List ℕ
 widths = map (λ f. f.width)
 
-same-fields : (fs gs : List Field) → widths fs ≡ widths gs → All Room fs → All Room gs → sent fs ≡ sent gs → fs ≡ gs
+same-fields : (fs gs : List Field) → widths fs ≡ widths gs → AllByRecursion Room fs → AllByRecursion Room gs → sent fs ≡ sent gs → fs ≡ gs
 same-fields [] [] w a b e = refl
 same-fields [] (g ∷ gs) w a b e = let z : ◌≡◌ {A = ℕ} 0 1 = cc (w) in absurd (omega arith)
 same-fields (f ∷ fs) [] w a b e = let z : ◌≡◌ {A = ℕ} 0 1 = cc (w) in absurd (omega arith)
@@ -83,7 +83,7 @@ byte_room : (frame : ℕ) (i : Option ℕ) → Identifier i → identifier_byte 
 byte_room frame None h = lit< tt
 byte_room frame (Some i) h = cond_both (odd frame) (i / 256) (i % 256) (λ v. v < 2 ^ 8) (λ e. omega arith) (λ e. omega arith)
 
-fields-room : (s : Settings) (frame : ℕ) → Identifier s.identifier → frame ≤ 4 → All Room (fields s frame)
+fields-room : (s : Settings) (frame : ℕ) → Identifier s.identifier → frame ≤ 4 → AllByRecursion Room (fields s frame)
 fields-room s frame h k = (
   cond_both (odd frame) 0b0011010111101110 0b1100101000010001 (λ v. v < 2 ^ 16) (λ e. lit< tt) (λ e. lit< tt),
   (

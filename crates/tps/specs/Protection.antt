@@ -1,6 +1,6 @@
 -- The code that protects a TPS block (EN 300 744, clause 4.6.2.11). A polynomial over the field of two elements is a number: bit k is the coefficient of x^k, and the sum is the exclusive or.
 use Rattle.std.specs.Prelude.{◌≡◌, ℕ, ◌+◌, ◌*◌, ◌^◌, ◌<◌, Bool, cond, List, [], ◌∷◌, ◌++◌, length, replicate, bit_xor, nat_le}
-use Rattle.std.specs.List.{AllByRecursion as All}
+use Rattle.std.specs.List.{AllByRecursion}
 use Rattle.tps.specs.Field.{bits}
 
 -- h(x), the generator
@@ -36,5 +36,5 @@ product (b ∷ q) p = bit_xor (cond b p 0) (2 * product q p)
 -- 67 bits, s1 at power 66, that are a multiple of h
 pub record Codeword (bs : List ℕ) : Type 0 where
   pub sized : length bs ≡ 67
-  pub binary : All (λ b. b < 2) bs
+  pub binary : AllByRecursion (λ b. b < 2) bs
   pub multiple : (q : List Bool) × (polynomial bs ≡ product q generator)

@@ -1,6 +1,6 @@
 // The protection of a TPS block (EN 300 744, clause 4.6.2.11): bits in, that of the highest power first, the remainder by h(x) out.
 ghost use Rattle.std.specs.Prelude.{◌≡◌, ◌<◌};
-ghost use Rattle.std.specs.List.{AllByRecursion as All};
+ghost use Rattle.std.specs.List.{AllByRecursion};
 ghost use Rattle.tps.specs.Protection.{reduced as reduced_of, remainder_from};
 
 // h(x) = x^14 + x^9 + x^8 + x^6 + x^5 + x^4 + x^2 + x + 1.
@@ -14,7 +14,7 @@ fn reduced(n: u32) -> u32
 
 // Long division: bit by bit is brought down, and h taken off where it goes.
 pub(crate) fn remainder(bits: &[u8]) -> u32
-    requires { All (λ b. b < 2) bits.now }
+    requires { AllByRecursion (λ b. b < 2) bits.now }
     ensures { result ≡ remainder_from 0 bits.now }
 {
     let mut r: u32 = 0;

@@ -4,7 +4,6 @@ use line::Line;
 use refusal::Refusal;
 use stage::Stage;
 use std::process::Abort;
-use std::test::*;
 
 const ROOM: usize = 2000;
 
@@ -39,26 +38,28 @@ fn told(answer: Result<usize, Refusal>) -> (u8, usize) {
 }
 
 fn cells<P: Stage>(
+    rt: &impl Abort,
     line: &mut Line<P>,
     buffer: &mut [u8],
     room: usize,
-) -> Result<(u8, usize), Fail> {
+) -> (u8, usize) {
     let room = room.min(buffer.len());
     let answer = told(line.cells(&mut buffer[..room]));
-    check_rest(buffer, answer.1)?;
-    Ok(answer)
+    check_rest(rt, buffer, answer.1);
+    answer
 }
 
 fn tps<P: Stage>(
+    rt: &impl Abort,
     line: &Line<P>,
     frame: u8,
     buffer: &mut [u8],
     room: usize,
-) -> Result<(u8, usize), Fail> {
+) -> (u8, usize) {
     let room = room.min(buffer.len());
     let answer = done(line.tps(frame, &mut buffer[..room]));
-    check_rest(buffer, if answer.0 == 0 { 67 } else { 0 })?;
-    Ok(answer)
+    check_rest(rt, buffer, if answer.0 == 0 { 67 } else { 0 });
+    answer
 }
 
 // A packet of the bytes at the front.
@@ -66,36 +67,31 @@ fn offer<P: Stage>(line: &mut Line<P>, bytes: &[u8], length: usize) -> (u8, usiz
     done(line.packet(&bytes[..length.min(bytes.len())]))
 }
 
-fn packets<P: Stage>(line: &mut Line<P>, bytes: &[u8], count: u32) -> Result<(u8, usize), Fail> {
+fn packets<P: Stage>(rt: &impl Abort, line: &mut Line<P>, bytes: &[u8], count: u32) -> (u8, usize) {
     for _ in 0..count {
-        assert!(line.packet(bytes).is_ok());
-        assert_eq!(cells(line, &mut [UNTOUCHED; 188], 188)?, (0, 188));
+        assert!(rt; line.packet(bytes).is_ok());
+        assert_eq!(rt; cells(rt, line, &mut [UNTOUCHED; 188], 188), (0, 188));
     }
-    Ok((0, 0))
+    (0, 0)
 }
 
 impl Call {
-    fn make<P: Stage>(self, line: &mut Line<P>) -> Result<(u8, usize), Fail> {
+    fn make<P: Stage>(self, rt: &impl Abort, line: &mut Line<P>) -> (u8, usize) {
         match self {
-            Call::Start(numbers) => Ok(done(line.start(&codes(numbers)))),
-            Call::Packet(length, first) => Ok(offer(line, &[first; LONG], length)),
-            Call::Cells(room) => cells(line, &mut [UNTOUCHED; ROOM], room),
-            Call::Close => Ok(done(line.close())),
-            Call::Tps(frame, room) => tps(line, frame, &mut [UNTOUCHED; ROOM], room),
-            Call::Packets(count) => packets(line, &[0x47; 188], count),
+            Call::Start(numbers) => done(line.start(&codes(numbers))),
+            Call::Packet(length, first) => offer(line, &[first; LONG], length),
+            Call::Cells(room) => cells(rt, line, &mut [UNTOUCHED; ROOM], room),
+            Call::Close => done(line.close()),
+            Call::Tps(frame, room) => tps(rt, line, frame, &mut [UNTOUCHED; ROOM], room),
+            Call::Packets(count) => packets(rt, line, &[0x47; 188], count),
         }
     }
 }
 
 // Makes the calls one after the other on a new line; each has to answer the refusal's number, or 0 and the count.
-pub(crate) fn check_line<P: Stage + Drop>(
-    rt: &impl Abort,
-    pile: P,
-    calls: &[(Call, u8, usize)],
-) -> Result<(), Fail> {
+pub(crate) fn check_line<P: Stage + Drop>(rt: &impl Abort, pile: P, calls: &[(Call, u8, usize)]) {
     let mut line = Line::new(pile);
     for (call, number, count) in calls {
-        assert_eq!(rt; call.make(&mut line)?, (*number, *count));
+        assert_eq!(rt; call.make(rt, &mut line), (*number, *count));
     }
-    Ok(())
 }

@@ -9,7 +9,6 @@ use pile::Pile;
 use settings::Constellation;
 use stage::Stage;
 use std::process::Abort;
-use std::test::*;
 
 // 2K, QPSK, 1/2 and 1/32: a super-frame is 252 packets.
 const KNOWN: [u8; 4] = [0, 0, 0, 0];
@@ -62,12 +61,12 @@ const ANSWERS: [(Call, u8, usize); 43] = [
 ];
 
 #[test]
-fn calls(rt: HostRuntime) -> Result<(), Fail> {
+fn calls(rt: HostRuntime) {
     check_line(
         &rt,
         Pile::new(EnergyDispersal::new(), EnergyDispersal::new()),
         &ANSWERS,
-    )
+    );
 }
 
 // No packet is a multiple of a super-frame too.
@@ -78,8 +77,8 @@ const EMPTY: [(Call, u8, usize); 3] = [
 ];
 
 #[test]
-fn close_of_nothing(rt: HostRuntime) -> Result<(), Fail> {
-    check_line(&rt, EnergyDispersal::new(), &EMPTY)
+fn close_of_nothing(rt: HostRuntime) {
+    check_line(&rt, EnergyDispersal::new(), &EMPTY);
 }
 
 // One pile takes bits. In the other a byte doesn't fit the lower stage, so it takes nothing.
@@ -91,13 +90,13 @@ const UNFIT: [(Call, u8, usize); 4] = [
 ];
 
 #[test]
-fn pile_that_takes_no_bytes(rt: HostRuntime) -> Result<(), Fail> {
-    check_line(&rt, BitInterleaver::of(Constellation::Qpsk), &UNFIT)?;
+fn pile_that_takes_no_bytes(rt: HostRuntime) {
+    check_line(&rt, BitInterleaver::of(Constellation::Qpsk), &UNFIT);
     check_line(
         &rt,
         Pile::new(EnergyDispersal::new(), Serializer::new()),
         &[(Call::Start(KNOWN), 0, 0)],
-    )?;
+    );
     check_line(
         &rt,
         Pile::new(
@@ -105,7 +104,7 @@ fn pile_that_takes_no_bytes(rt: HostRuntime) -> Result<(), Fail> {
             BitInterleaver::of(Constellation::Qpsk),
         ),
         &UNFIT,
-    )
+    );
 }
 
 // A packet is 1504 bits, a block 252 bits and 126 words: five blocks and 244 bits, and with the next packet's six.
@@ -120,44 +119,39 @@ const WORDS: [(Call, u8, usize); 7] = [
 ];
 
 #[test]
-fn words_of_whole_blocks(rt: HostRuntime) -> Result<(), Fail> {
+fn words_of_whole_blocks(rt: HostRuntime) {
     check_line(
         &rt,
         Pile::new(Serializer::new(), BitInterleaver::of(Constellation::Qpsk)),
         &WORDS,
-    )
+    );
 }
 
 // The cells of one packet into a longer buffer.
-fn check_cells<P: Stage + Drop>(
-    rt: &impl Abort,
-    pile: P,
-    bytes: &[u8],
-    cells: &[u8],
-) -> Result<(), Fail> {
+fn check_cells<P: Stage + Drop>(rt: &impl Abort, pile: P, bytes: &[u8], cells: &[u8]) {
     let mut line = Line::new(pile);
     let mut buffer = [UNTOUCHED; 200];
     assert!(rt; line.start(&codes(KNOWN)).is_ok());
     assert!(rt; line.packet(bytes).is_ok());
     assert!(rt; line.cells(&mut buffer).is_ok());
-    check_front(&buffer, cells)?;
-    check_rest(&buffer, 188)
+    check_front(rt, &buffer, cells);
+    check_rest(rt, &buffer, 188);
 }
 
 // What one dispersal combines, a second one takes off again.
 #[test]
-fn cells_are_the_bytes(rt: HostRuntime) -> Result<(), Fail> {
+fn cells_are_the_bytes(rt: HostRuntime) {
     check_cells(
         &rt,
         Pile::new(EnergyDispersal::new(), EnergyDispersal::new()),
         &packet(),
         &packet(),
-    )
+    );
 }
 
 // The first outputs of the register: docs/rules/outer-stages.md.
 #[test]
-fn cells_of_zeros(rt: HostRuntime) -> Result<(), Fail> {
+fn cells_of_zeros(rt: HostRuntime) {
     let mut bytes = [0; 188];
     bytes[0] = 0x47;
     check_cells(
@@ -165,5 +159,5 @@ fn cells_of_zeros(rt: HostRuntime) -> Result<(), Fail> {
         EnergyDispersal::new(),
         &bytes,
         &[0xB8, 0x03, 0xF6, 0x08, 0x34],
-    )
+    );
 }

@@ -5,7 +5,6 @@ use inner_interleaver::bit_interleaver::BitInterleaver;
 use outer::Serializer;
 use pile::Pile;
 use settings::Constellation;
-use std::test::*;
 
 const KNOWN: [u8; 4] = [0, 0, 0, 0];
 
@@ -49,12 +48,12 @@ const ANSWERS: [(Call, Answer); 32] = [
 ];
 
 #[test]
-fn calls(rt: HostRuntime) -> Result<(), Fail> {
+fn calls(rt: HostRuntime) {
     check_receiver(
         &rt,
         Pile::new(EnergyDispersal::new(), EnergyDispersal::new()),
         &ANSWERS,
-    )
+    );
 }
 
 // Words of two bits.
@@ -68,12 +67,12 @@ const CELLS: [(Call, Answer); 6] = [
 ];
 
 #[test]
-fn cells_of_two_bits(rt: HostRuntime) -> Result<(), Fail> {
+fn cells_of_two_bits(rt: HostRuntime) {
     check_receiver(
         &rt,
         Pile::new(Serializer::new(), BitInterleaver::of(Constellation::Qpsk)),
         &CELLS,
-    )
+    );
 }
 
 const UNFIT: [(Call, Answer); 3] = [
@@ -83,6 +82,6 @@ const UNFIT: [(Call, Answer); 3] = [
 ];
 
 #[test]
-fn pile_that_takes_no_bytes(rt: HostRuntime) -> Result<(), Fail> {
-    check_receiver(&rt, BitInterleaver::of(Constellation::Qpsk), &UNFIT)
+fn pile_that_takes_no_bytes(rt: HostRuntime) {
+    check_receiver(&rt, BitInterleaver::of(Constellation::Qpsk), &UNFIT);
 }

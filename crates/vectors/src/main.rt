@@ -3,7 +3,7 @@
 #![tactic(auto)]
 
 mod annex;
-mod broadcast;
+mod exchange;
 mod listener;
 mod packets;
 mod refusals;

@@ -1,5 +1,5 @@
 // What is refused, and what only just isn't.
-use super::broadcast::started;
+use super::exchange::started;
 use super::report::Report;
 use super::stop::Stop;
 use super::trial::{Trial, run_trial};

@@ -2,7 +2,7 @@
 use super::refusals::Close;
 use super::report::Report;
 use super::stop::Stop;
-use super::{broadcast, refusals};
+use super::{exchange, refusals};
 use samples::expected::Expected;
 use settings::Settings;
 use stage::Stage;
@@ -26,8 +26,8 @@ fn over<P: Stage + Drop>(
         Trial::Cells => refusals::check_cells(report, settings, receiving),
         Trial::Close(close) => refusals::check_close(report, settings, close, sending),
         Trial::Broadcast { number, expected } => {
-            let outcome = broadcast::carry_out(settings, number, sending, receiving)?;
-            broadcast::check(report, settings, outcome, expected)
+            let outcome = exchange::carry_out(settings, number, sending, receiving)?;
+            exchange::check(report, settings, outcome, expected)
         }
     }
 }

@@ -1,5 +1,5 @@
 use Rattle.std.proofs.Common.{◌≡◌, ◌<◌, None, sym, ap, ◌∙◌, subst, arith}
-use Rattle.std.specs.List.{AllByRecursion as All}
+use Rattle.std.specs.List.{AllByRecursion}
 use Rattle.tps.specs.Field.{field, put}
 use Rattle.tps.specs.Block.{refused, after}
 use Rattle.tps.proofs.Signalling.{fields-written, spaced_front, spaced_binary, block_written, accepted}
@@ -14,7 +14,7 @@ remainder-parity-requires c =
     let b1 = c.write.new.buffer in
     let e1 : b1 ≡ put (field 14 0) 53 b0 = c.write.ensures ∙ ap (λ f. put f 53 b0) c.new.ensures in
     let e0 = fields-written s n B b0 c.fields.result c.fields.ensures c.write_all.ensures in
-    subst (All (λ b. b < 2)) (sym (spaced_front s n B b0 b1 e0 e1)) (spaced_binary s n B b0 b1 e0 e1)
+    subst (AllByRecursion (λ b. b < 2)) (sym (spaced_front s n B b0 b1 e0 e1)) (spaced_binary s n B b0 b1 e0 e1)
 
 pub returns : goal.returns
 returns c =

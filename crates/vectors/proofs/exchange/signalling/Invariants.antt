@@ -1,5 +1,5 @@
 use Rattle.std.proofs.Common.{◌≡◌, length}
-use Rattle.vectors.proofs.broadcast.signalling.Given as goal
+use Rattle.vectors.proofs.exchange.signalling.Given as goal
 
 abbrev pub invariant-loop-frame : goal.invariant-loop-frame
 invariant-loop-frame g l = length l.block ≡ 67
