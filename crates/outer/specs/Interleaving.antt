@@ -4,7 +4,7 @@ use Rattle.std.proofs.Common.{eqb→eq, lit≤, length-append, length-take, take
 use Rattle.std.proofs.ByRecursion.{All-get_or, All-append, All-drop, All-set}
 use Rattle.std.proofs.lemmas.List.{get_or-take, get_or_at, get_or_past, drop_more, length_push}
 use Rattle.std.proofs.lemmas.Bool.{cases_lt, lt-ltb, le-ltb, eq-eqb, and_left, and_right}
-use Rattle.std.specs.List.{AllByRecursion as All}
+use Rattle.std.specs.List.{AllByRecursion}
 use Rattle.stage.specs.declared.Fault.{Fault}
 use Rattle.stage.specs.Model.{Heard, and_then, clean}
 use Rattle.stage.specs.Rule.{Rule, Under, Back, Numbered}
@@ -142,7 +142,7 @@ module _ (xs zs : List ℕ) (short : length zs ≤ length xs) (is : (p : ℕ) �
 abbrev Bytes : List ℕ → Type 0
 Bytes = Under 256
 
-queue_bytes : (qs : List (List ℕ)) (i : ℕ) → All Bytes qs → Bytes (slice_index_or qs i [])
+queue_bytes : (qs : List (List ℕ)) (i : ℕ) → AllByRecursion Bytes qs → Bytes (slice_index_or qs i [])
 queue_bytes qs i h =
     elim (cases_lt i (length qs)) [
       | inl l ↦ All-get_or Bytes qs i [] l h
@@ -153,29 +153,29 @@ oldest_byte : (q : List ℕ) → Bytes q → oldest q < 256
 oldest_byte [] h = omega arith
 oldest_byte (x ∷ q) h = h.0
 
-module _ (s : Branches) (x : ℕ) (h : All Bytes s.queues) (k : x < 256) where
+module _ (s : Branches) (x : ℕ) (h : AllByRecursion Bytes s.queues) (k : x < 256) where
   pushed_bytes : Bytes (queue_now s ++ x ∷ [])
   pushed_bytes = All-append (λ y. y < 256) (queue_now s) (x ∷ []) (queue_bytes s.queues s.turn h) (k, tt)
 
   passed_byte : passed s x < 256
   passed_byte = oldest_byte (queue_now s ++ x ∷ []) pushed_bytes
 
-  passing_bytes : All Bytes (passing s x).queues
+  passing_bytes : AllByRecursion Bytes (passing s x).queues
   passing_bytes = All-set Bytes s.queues s.turn (drop 1 (queue_now s ++ x ∷ [])) (All-drop (λ y. y < 256) 1 (queue_now s ++ x ∷ []) pushed_bytes) h
 
 zero_bytes : (d : ℕ) → Bytes (replicate d 0)
 zero_bytes zero = tt
 zero_bytes (suc d) = (omega arith, zero_bytes d)
 
-all_zeros : (ds : List ℕ) → All Bytes (map (λ d. replicate d 0) ds)
+all_zeros : (ds : List ℕ) → AllByRecursion Bytes (map (λ d. replicate d 0) ds)
 all_zeros [] = tt
 all_zeros (d ∷ ds) = (zero_bytes d, all_zeros ds)
 
-new_bytes : (ds : List ℕ) → All Bytes (new_branches ds).queues
+new_bytes : (ds : List ℕ) → AllByRecursion Bytes (new_branches ds).queues
 unfolding new_branches
 new_bytes ds = all_zeros ds
 
-sends_bytes : (s : Branches) (xs : List ℕ) → All Bytes s.queues → Bytes xs → Bytes (interleaved s xs)
+sends_bytes : (s : Branches) (xs : List ℕ) → AllByRecursion Bytes s.queues → Bytes xs → Bytes (interleaved s xs)
 sends_bytes s [] h k = tt
 sends_bytes s (x ∷ xs) h k = (passed_byte s x h k.0, sends_bytes (passing s x) xs (passing_bytes s x h k.0) k.1)
 
@@ -184,7 +184,7 @@ one_byte true early x r h k = tt
 one_byte false true x r h k = k
 one_byte false false x r h k = (h, k)
 
-hears_bytes : (s : Arriving) (ys : List ℕ) → All Bytes s.branches.queues → Bytes ys → Bytes (restored s ys).units
+hears_bytes : (s : Arriving) (ys : List ℕ) → AllByRecursion Bytes s.branches.queues → Bytes ys → Bytes (restored s ys).units
 hears_bytes s [] h k = tt
 hears_bytes s (y ∷ ys) h k =
     one_byte (misplaced s y) (nat_lt s.count 2244) (passed s.branches y) (restored (arriving_after s y) ys)
