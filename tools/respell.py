@@ -116,6 +116,22 @@ def rewrite(text, names):
     return TOKEN.sub(new, text)
 
 
+def plain_imports(text, comment):
+    """Words that a file imports under a name of its own: no dash in it, and none of the library's words for another."""
+    again = {a: a.replace("-", "_") for a in re.findall(r" as ([a-z]+(?:-[a-z]+)+)", text)}
+    if "AllByRecursion as All" in text:
+        text = text.replace("AllByRecursion as All", "AllByRecursion")
+        again["All"] = "AllByRecursion"
+    if not again:
+        return text
+    word = re.compile(r"(?<![\w.'-])(" + "|".join(sorted(again, key=len, reverse=True)) + r")(?![\w'-])")
+    lines = []
+    for line in text.split("\n"):
+        code, mark, rest = line.partition(comment)
+        lines.append(word.sub(lambda m: again[m.group(1)], code) + mark + rest)
+    return "\n".join(lines)
+
+
 def outside_strings(text, names):
     pieces = re.split(r'("(?:[^"\\\n]|\\.)*")', text)
     return "".join(p if i % 2 else rewrite(p, names) for i, p in enumerate(pieces))
@@ -132,7 +148,8 @@ def main():
         return
     for path in list(files(".antt")) + list(files(".rt")):
         old = read(path)
-        new = outside_strings(old, names) if path.endswith(".rt") else rewrite(old, names)
+        code = path.endswith(".rt")
+        new = plain_imports(outside_strings(old, names) if code else rewrite(old, names), "//" if code else "--")
         if new != old:
             with open(path, "w", encoding="utf-8") as f:
                 f.write(new)
