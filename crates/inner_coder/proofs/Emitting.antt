@@ -20,7 +20,7 @@ use Rattle.inner_coder.specs.contracts.puncturing.Left.{the_type}
 use Rattle.inner_coder.specs.declared.puncturing.Left.TheVariants.{Nothing, Both, X, Y}
 use Rattle.inner_coder.specs.Puncturing.{sent_at}
 use Rattle.inner_coder.specs.Convolution.{shifted, emitted, sends_one, walked}
-use Rattle.inner_coder.specs.Coder.{inner_code, idle_at, units_left}
+use Rattle.inner_coder.specs.Coder.{inner_code, idle_at, units_left, sent_of}
 use Rattle.inner_coder.specs.Coding.{emitted_under}
 
 -- what the test for something left tells
@@ -30,7 +30,7 @@ none_left Both e = absurd (true≢false (sym e))
 none_left X e = absurd (true≢false (sym e))
 none_left Y e = absurd (true≢false (sym e))
 
-pub some_left : (l : Left) (r : ℕ) → true ≡ not (sameb the_type l Nothing) → some (units_left l r) ≡ true
+pub some_left : (l : Left) (r : ℕ) → true ≡ not (sameb the_type l Nothing) → some (units_left (sent_of l) r) ≡ true
 some_left Nothing r e = absurd (true≢false e)
 some_left Both r e = refl
 some_left X r e = refl

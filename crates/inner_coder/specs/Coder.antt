@@ -8,9 +8,11 @@ use Rattle.stage.specs.Model.{Model, Sending, Receiving, hushed}
 use Rattle.stage.specs.Rule.{capped}
 use Rattle.inner_coder.specs.declared.coder.InnerCoder.{InnerCoder}
 use Rattle.inner_coder.specs.declared.convolution.Walk.{Walk}
+use Rattle.inner_coder.specs.declared.puncturing.Sent.{Sent}
+use Rattle.inner_coder.specs.declared.puncturing.Sent.TheVariants as sent
 use Rattle.inner_coder.specs.declared.puncturing.Left.{Left}
 use Rattle.inner_coder.specs.declared.puncturing.Left.TheVariants.{Nothing, Both, X, Y}
-use Rattle.inner_coder.specs.Convolution.{coded, decoded, start, start_hearing, x_of, y_of, disagrees}
+use Rattle.inner_coder.specs.Convolution.{coded, decoded, start, start_hearing, emitted, disagrees}
 
 abbrev pub inner_code : Rate → Model
 inner_code rate = record {
@@ -31,14 +33,18 @@ abbrev pub idle_at : Rate → Walk → Sending
 idle_at rate w = record { waits = []; future = coded rate w }
 
 -- what waits: the units of the last bit that are not taken yet
-abbrev pub units_left : Left → ℕ → List ℕ
-units_left Nothing r = []
-units_left Both r = x_of r ∷ y_of r ∷ []
-units_left X r = x_of r ∷ []
-units_left Y r = y_of r ∷ []
+abbrev pub units_left : Option Sent → ℕ → List ℕ
+units_left None r = []
+units_left (Some sent) r = emitted sent r
+
+abbrev pub sent_of : Left → Option Sent
+sent_of Nothing = None
+sent_of Both = Some sent.Both
+sent_of X = Some sent.X
+sent_of Y = Some sent.Y
 
 abbrev pub sending_of : InnerCoder → Sending
-sending_of c = record { waits = units_left c.waits c.sending.register; future = coded c.rate c.sending }
+sending_of c = record { waits = units_left (sent_of c.waits) c.sending.register; future = coded c.rate c.sending }
 
 -- the last bit heard is the register's highest
 abbrev pub bit_left : Bool → ℕ → List ℕ

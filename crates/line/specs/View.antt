@@ -33,7 +33,7 @@ abbrev pub begun_of : Pending → List ℕ
 begun_of p = drop p.at p.packet
 
 abbrev pub bytes_of : Pending → List ℕ
-bytes_of p = begun_of p ++ bytes (replicate p.nulls null_packet)
+bytes_of p = drop p.at p.packet ++ bytes (replicate p.nulls null_packet)
 
 -- a side from which n waiting units were taken
 abbrev pub dropped : ℕ → Sending → Sending

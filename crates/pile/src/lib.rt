@@ -32,9 +32,7 @@ pub struct Pile<U, L> {
 impl<U: Stage, L: Stage> Pile<U, L> {
     // A pile of new parts is new.
     pub fn new(upper: U, lower: L) -> Pile<U, L>
-        ensures upper { result.upper ≡ upper }
-        ensures lower { result.lower ≡ lower }
-        ensures misfit { result.misfit ≡ false }
+        ensures holds { result ≡ record { upper = upper; lower = lower; down = result.down; misfit = false } }
         ensures empty { units_of result.down ≡ [] }
         ensures sends { U.Stage.sending upper ≡ new_sending (U.Stage.model upper) → L.Stage.sending lower ≡ new_sending (L.Stage.model lower) → piled_sending (U.Stage.model upper) (L.Stage.model lower) (U.Stage.sending upper) (L.Stage.sending lower) ≡ new_sending (piled (U.Stage.model upper) (L.Stage.model lower)) }
         ensures queued { U.Stage.sending upper ≡ new_sending (U.Stage.model upper) → L.Stage.sending lower ≡ new_sending (L.Stage.model lower) → piled_sending (U.Stage.model upper) (L.Stage.model lower) (queueing (L.Stage.model lower) result.down (U.Stage.sending upper)) (L.Stage.sending lower) ≡ new_sending (piled (U.Stage.model upper) (L.Stage.model lower)) }

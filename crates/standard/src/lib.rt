@@ -14,7 +14,7 @@ use inner_interleaver::bit_interleaver::BitInterleaver;
 use inner_interleaver::symbol_interleaver::SymbolInterleaver;
 use outer::{OuterCoder, OuterInterleaver, Serializer};
 use pile::Pile;
-use settings::{Constellation, Mode, Rate, Settings};
+use settings::Settings;
 use stage::Stage;
 
 pub type Words = Pile<BitInterleaver, SymbolInterleaver>;
@@ -29,40 +29,40 @@ pub type Protected = Pile<OuterCoder, Delayed>;
 
 pub type StandardPile = Pile<EnergyDispersal, Protected>;
 
-fn make_words(mode: Mode, constellation: Constellation) -> Words
-    ensures { IsNew words result (words_for mode constellation) }
+fn make_words(settings: &Settings) -> Words
+    ensures { IsNew words result (words_for settings.now.mode settings.now.constellation) }
 {
-    let bits = BitInterleaver::of(constellation);
-    let symbols = SymbolInterleaver::of(mode, constellation);
+    let bits = BitInterleaver::of(settings.constellation);
+    let symbols = SymbolInterleaver::of(settings.mode, settings.constellation);
     Pile::new(bits, symbols)
 }
 
-fn make_coded(mode: Mode, constellation: Constellation, rate: Rate) -> Coded
-    ensures { IsNew coded result (coded_for mode constellation rate) }
+fn make_coded(settings: &Settings) -> Coded
+    ensures { IsNew coded result (coded_for settings.now.mode settings.now.constellation settings.now.rate) }
 {
-    let coder = InnerCoder::of(rate);
-    Pile::new(coder, make_words(mode, constellation))
+    let coder = InnerCoder::of(settings.rate);
+    Pile::new(coder, make_words(settings))
 }
 
-fn make_serialized(mode: Mode, constellation: Constellation, rate: Rate) -> Serialized
-    ensures { IsNew serialized result (serialized_for mode constellation rate) }
+fn make_serialized(settings: &Settings) -> Serialized
+    ensures { IsNew serialized result (serialized_for settings.now.mode settings.now.constellation settings.now.rate) }
 {
     let serializer = Serializer::new();
-    Pile::new(serializer, make_coded(mode, constellation, rate))
+    Pile::new(serializer, make_coded(settings))
 }
 
-fn make_delayed(mode: Mode, constellation: Constellation, rate: Rate) -> Delayed
-    ensures { IsNew delayed result (delayed_for mode constellation rate) }
+fn make_delayed(settings: &Settings) -> Delayed
+    ensures { IsNew delayed result (delayed_for settings.now.mode settings.now.constellation settings.now.rate) }
 {
     let interleaver = OuterInterleaver::new();
-    Pile::new(interleaver, make_serialized(mode, constellation, rate))
+    Pile::new(interleaver, make_serialized(settings))
 }
 
-fn make_protected(mode: Mode, constellation: Constellation, rate: Rate) -> Protected
-    ensures { IsNew protected result (protected_for mode constellation rate) }
+fn make_protected(settings: &Settings) -> Protected
+    ensures { IsNew protected result (protected_for settings.now.mode settings.now.constellation settings.now.rate) }
 {
     let coder = OuterCoder::new();
-    Pile::new(coder, make_delayed(mode, constellation, rate))
+    Pile::new(coder, make_delayed(settings))
 }
 
 // A new pile for the settings.
@@ -70,8 +70,7 @@ pub fn standard(settings: &Settings) -> StandardPile
     ensures { IsNew seven_stages result (standard_model settings.now) }
 {
     let dispersal = EnergyDispersal::new();
-    let protected = make_protected(settings.mode, settings.constellation, settings.rate);
-    Pile::new(dispersal, protected)
+    Pile::new(dispersal, make_protected(settings))
 }
 
 // Of the bytes sent, how many at most are not back yet while the last m cells are unheard.

@@ -7,6 +7,6 @@ use Rattle.standard.proofs.make_protected.Goals as goal
 pub returns : goal.returns
 returns c =
     new_over protecting delayed c.new-coder.result c.make_delayed.result c.new.result outer_coder _
-    c.new.ensures.upper c.new.ensures.lower c.new.ensures.misfit c.new.ensures.queued c.new.ensures.hears
+    c.new.ensures.holds c.new.ensures.queued c.new.ensures.hears
     (record { model = refl; sends = c.new-coder.ensures.sends; hears = c.new-coder.ensures.hears })
     c.make_delayed.ensures

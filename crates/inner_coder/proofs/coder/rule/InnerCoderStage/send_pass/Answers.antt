@@ -6,7 +6,7 @@ use Rattle.stage.proofs.Machine.{gives_sends}
 use Rattle.stage.proofs.Passing.{gives_of, gives_fed, gives_then, passes_then}
 use Rattle.inner_coder.specs.declared.puncturing.Left.TheVariants.{Nothing}
 use Rattle.inner_coder.specs.Convolution.{coded, sends_one, walked}
-use Rattle.inner_coder.specs.Coder.{inner_code, idle_at, sending_of, units_left}
+use Rattle.inner_coder.specs.Coder.{inner_code, idle_at, sending_of, units_left, sent_of}
 use Rattle.inner_coder.proofs.Emitting.{none_left, some_left}
 use Rattle.inner_coder.proofs.coder.rule.InnerCoderStage.send_pass.Goals as goal
 
@@ -44,9 +44,9 @@ returns c =
     let input = c.args.input.now in
     let none : s₁.waits ≡ Nothing = none_left s₁.waits c.if-ne.ensures in
     let before : sending_of s₁ ≡ idle_at s₁.rate s₁.sending =
-    λ i. record { waits = units_left (none i) s₁.sending.register; future = coded s₁.rate s₁.sending } in
-    let after : idle_at s₁.rate w ≡ record { waits = units_left s₁.waits w.register; future = coded s₁.rate w } =
-    λ i. record { waits = units_left (sym none i) w.register; future = coded s₁.rate w } in
+    λ i. record { waits = units_left (sent_of (none i)) s₁.sending.register; future = coded s₁.rate s₁.sending } in
+    let after : idle_at s₁.rate w ≡ record { waits = units_left (sent_of s₁.waits) w.register; future = coded s₁.rate w } =
+    λ i. record { waits = units_left (sent_of (sym none i)) w.register; future = coded s₁.rate w } in
     let front = gives_fed M (take used input) (gives_of M refl before drained.drains.gives) in
     let done = gives_of M refl after (gives_then M front {N = inner_code s₁.rate} refl went.gives) in
     record {
