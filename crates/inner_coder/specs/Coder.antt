@@ -37,6 +37,7 @@ abbrev pub units_left : Option Sent → ℕ → List ℕ
 units_left None r = []
 units_left (Some sent) r = emitted sent r
 
+-- what is left of a bit, as an option of what is sent of one
 abbrev pub sent_of : Left → Option Sent
 sent_of Nothing = None
 sent_of Both = Some sent.Both

@@ -28,10 +28,11 @@ counted_by (Err r) = refused (number_of r)
 abbrev pub outcome : Answer → List ℕ → steps.Line → Outcome steps.Line
 outcome a b l = record { answer = a; buffer = b; state = l }
 
--- the bytes that are to be handed on: the rest of the packet begun, and null packets
+-- the rest of the packet begun
 abbrev pub begun_of : Pending → List ℕ
 begun_of p = drop p.at p.packet
 
+-- the bytes that are to be handed on: the rest of the packet begun, and null packets
 abbrev pub bytes_of : Pending → List ℕ
 bytes_of p = drop p.at p.packet ++ bytes (replicate p.nulls null_packet)
 
