@@ -7,7 +7,8 @@ use Rattle.std.proofs.lemmas.Bool.{cases_lt}
 use Rattle.std.proofs.ByRecursion.{All-append}
 use Rattle.tps.specs.Laws.{BlocksTellSettings}
 use Rattle.stage.specs.Model.{Heard, Model}
-use Rattle.stage.specs.Rule.{most, Under, Rule, Back, without_last}
+use Rattle.stage.specs.Rule.{Under, Rule, Back, without_last}
+use Rattle.holds.specs.Capped.{most}
 use Rattle.settings.specs.declared.Settings.{Settings}
 use Rattle.settings.specs.SuperFrame.{super_frame_packets}
 use Rattle.tps.specs.Block.{blocks}

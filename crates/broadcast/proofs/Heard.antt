@@ -6,7 +6,8 @@ use Rattle.std.proofs.lemmas.List.{append_assoc}
 use Rattle.std.proofs.ByRecursion.{All-append}
 use Rattle.stage.specs.declared.Fault.{Fault}
 use Rattle.stage.specs.Model.{Heard, Model}
-use Rattle.stage.specs.Rule.{Under, Begins, Rule, Back, most, without_last}
+use Rattle.stage.specs.Rule.{Under, Begins, Rule, Back, without_last}
+use Rattle.holds.specs.Capped.{most}
 use Rattle.stage.proofs.Fronts.{begins_length, begins_both, begins_trans, begins_without, begins_refl, split, all_begins, all_right}
 use Rattle.broadcast.specs.Calls.{Answer, done, Event, calls_of, check, answered, bytes, closing_packets, is_started}
 use Rattle.broadcast.specs.Receiver.{Call, start, hear, collect, heard_by, heard_of, kept, a_packet, a_fault, fault_next, next, is_some, Standing, standing, refusal, collects, accepted, Follows, Succession, Faultless}

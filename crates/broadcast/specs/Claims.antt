@@ -5,7 +5,8 @@ use Rattle.std.specs.List.{flat_map, AllByRecursion}
 use Rattle.settings.specs.declared.codes.Codes.{Codes}
 use Rattle.settings.specs.declared.Settings.{Settings}
 use Rattle.stage.specs.Model.{Model}
-use Rattle.stage.specs.Rule.{Rule, Same, Begins, most}
+use Rattle.stage.specs.Rule.{Rule, Same, Begins}
+use Rattle.holds.specs.Capped.{most}
 use Rattle.stage.specs.Piled.{piled}
 use Rattle.settings.specs.Codes.{settings_read}
 use Rattle.tps.specs.Block.{blocks}

@@ -2,7 +2,7 @@
 use Rattle.std.specs.Prelude.{◌≡◌, ℕ, ◌+◌, ◌%◌, ◌<◌, List, [], ◌∷◌, length, Option, bit_xor, slice_index}
 use Rattle.stage.specs.Machine.{gives}
 use Rattle.stage.specs.Model.{Model, Sending, Receiving, clean, heard_of}
-use Rattle.stage.specs.Rule.{capped}
+use Rattle.holds.specs.Capped.{capped}
 use Rattle.stage.specs.Waiting.{listed}
 use Rattle.dispersal.specs.declared.energy_dispersal.EnergyDispersal.{EnergyDispersal}
 use Rattle.dispersal.specs.declared.noise.Noise.{Noise}

@@ -8,7 +8,7 @@ use Rattle.stage.specs.Machine.{gives}
 use Rattle.stage.specs.Model.{clean}
 use Rattle.stage.specs.Rule.{Rule, Under, Back, Numbered}
 use Rattle.stage.specs.Faultless.{clean_hears, no_fault}
-use Rattle.stage.proofs.Holds.{capped_stops, capped-most, capped_grows, capped_claims}
+use Rattle.holds.proofs.Capped.{capped_stops, capped-most, capped_grows, capped_claims}
 use Rattle.stage.proofs.Machine.{gives_sends}
 use Rattle.dispersal.specs.EnergyDispersal.{combined, onward, energy_dispersal, SendsDispersed}
 use Rattle.dispersal.specs.Noise.{mask}

@@ -5,7 +5,7 @@ use Rattle.settings.specs.declared.rate.Rate.{Rate}
 use Rattle.stage.specs.declared.Fault.{Fault}
 use Rattle.stage.specs.Known.{unknown}
 use Rattle.stage.specs.Model.{Model, Sending, Receiving, hushed}
-use Rattle.stage.specs.Rule.{capped}
+use Rattle.holds.specs.Capped.{capped}
 use Rattle.inner_coder.specs.declared.coder.InnerCoder.{InnerCoder}
 use Rattle.inner_coder.specs.declared.convolution.Walk.{Walk}
 use Rattle.inner_coder.specs.declared.puncturing.Sent.{Sent}

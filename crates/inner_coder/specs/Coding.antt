@@ -8,7 +8,7 @@ use Rattle.stage.specs.declared.Fault.{Fault}
 use Rattle.stage.specs.Model.{Heard, clean, and_then, silence}
 use Rattle.stage.specs.Rule.{Rule, Under, Begins, Numbered}
 use Rattle.stage.specs.Faultless.{no_fault}
-use Rattle.stage.proofs.Holds.{capped_stops, capped-most, capped_grows, capped_claims}
+use Rattle.holds.proofs.Capped.{capped_stops, capped-most, capped_grows, capped_claims}
 use Rattle.stage.proofs.Machine.{gives_sends, hears_from_hears, hears_from_faults}
 use Rattle.inner_coder.specs.declared.convolution.Walk.{Walk}
 use Rattle.inner_coder.specs.declared.puncturing.Sent.{Sent}

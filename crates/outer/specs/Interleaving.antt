@@ -9,7 +9,7 @@ use Rattle.stage.specs.declared.Fault.{Fault}
 use Rattle.stage.specs.Model.{Heard, and_then, clean}
 use Rattle.stage.specs.Rule.{Rule, Under, Back, Numbered}
 use Rattle.stage.specs.Faultless.{no_fault}
-use Rattle.stage.proofs.Holds.{capped_stops, capped-most, capped_grows, capped_claims}
+use Rattle.holds.proofs.Capped.{capped_stops, capped-most, capped_grows, capped_claims}
 use Rattle.stage.proofs.Machine.{gives_sends, hears_from_hears, hears_from_faults}
 use Rattle.outer.specs.Branches.{Branches, Arriving, unreached, sending_depths, hearing_depths, new_branches, new_arriving, passed, passing, oldest, queue_now, sends_one, interleaved, hears_if, hears_one, arriving_after, restored, misplaced}
 use Rattle.outer.specs.OuterInterleaver.{outer_interleaver, plus_2244}

@@ -7,7 +7,7 @@ use Rattle.reed.specs.declared.parity.Parity.{Parity}
 use Rattle.stage.specs.declared.Fault.{Fault}
 use Rattle.stage.specs.Machine.{gives, hears_from}
 use Rattle.stage.specs.Model.{Heard, Model, Sending, Receiving, clean, silence, hushed}
-use Rattle.stage.specs.Rule.{capped}
+use Rattle.holds.specs.Capped.{capped}
 use Rattle.stage.specs.Waiting.{listed}
 
 -- Sending: how many bytes of the packet have gone, and the remainder that they leave.

@@ -2,7 +2,7 @@
 use Rattle.std.specs.Prelude.{ℕ, ◌+◌, Bool, true, false, Some, None, Option}
 use Rattle.stage.specs.declared.Fault.{Fault}
 use Rattle.stage.specs.Model.{Model, Sending, Receiving, hushed}
-use Rattle.stage.specs.Rule.{capped}
+use Rattle.holds.specs.Capped.{capped}
 use Rattle.outer.specs.declared.bank.Bank.{Bank}
 use Rattle.outer.specs.Banks.{branches_of}
 use Rattle.outer.specs.Branches.{new_branches, sending_depths, interleaved, new_arriving, restored, unreached}

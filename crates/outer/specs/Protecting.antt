@@ -14,7 +14,7 @@ use Rattle.stage.specs.declared.Fault.{Fault}
 use Rattle.stage.specs.Model.{Heard, and_then, clean, silence}
 use Rattle.stage.specs.Rule.{Rule, Begins, Back, Numbered}
 use Rattle.stage.specs.Faultless.{no_fault}
-use Rattle.stage.proofs.Holds.{capped_stops, capped-most, capped_grows, capped_claims}
+use Rattle.holds.proofs.Capped.{capped_stops, capped-most, capped_grows, capped_claims}
 use Rattle.stage.proofs.Machine.{gives_sends, hears_from_hears, hears_from_faults}
 use Rattle.outer.specs.OuterCoder.{Progress, new_packet, passes, progressed, coded, vanishes, failed_root, checked, decoded, hears_block, gathered, restored_from, plus_187, outer_coder}
 use Rattle.outer.specs.Protection.{SendsCodewords, HearsCodewords}

@@ -1,18 +1,11 @@
 -- Holds: of what a stage was sent, how many units at most are not back yet while the last m of what it gave are unheard.
-use Rattle.std.specs.Prelude.{ℕ, ◌+◌, ◌-◌, ◌*◌, ◌/◌, min, cond, nat_le}
+use Rattle.std.specs.Prelude.{ℕ, ◌+◌, ◌-◌, ◌*◌, ◌/◌}
+use Rattle.holds.specs.Capped.{capped}
 use Rattle.settings.specs.declared.Settings.{Settings}
 use Rattle.settings.specs.declared.mode.Mode.{Mode}
 use Rattle.settings.specs.declared.constellation.Constellation.{Constellation}
 use Rattle.settings.specs.Mode.{symbol_cells}
 use Rattle.settings.specs.Constellation.{word_bits}
-
--- where holds stop
-abbrev pub most : ℕ
-most = 4294967295
-
--- a formula's hold: it stops, and from where it stops on it is full, whatever the formula gives
-abbrev pub capped : (ℕ → ℕ) → ℕ → ℕ
-capped formula m = cond (nat_le most m) most (min (formula m) most)
 
 abbrev pub dispersal_hold : ℕ → ℕ
 dispersal_hold = capped (λ m. m)

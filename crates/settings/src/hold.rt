@@ -1,22 +1,12 @@
 // The hold of the standard coder: how many bytes at most are not back yet while the last m cells are unheard.
 // Each stage, from the cells up, says how much of its input the missing output holds back.
 ghost use Rattle.std.specs.Prelude.{◌≡◌};
-ghost use Rattle.settings.specs.Hold.{capped, dispersal_hold, outer_coder_hold, outer_interleaver_hold, serializer_hold, inner_coder_hold, bit_interleaver_hold, symbol_interleaver_hold, standard_hold};
+ghost use Rattle.settings.specs.Hold.{dispersal_hold, outer_coder_hold, outer_interleaver_hold, serializer_hold, inner_coder_hold, bit_interleaver_hold, symbol_interleaver_hold, standard_hold};
 
 use super::Settings;
 use super::constellation::Constellation;
 use super::mode::Mode;
-
-// What a stage's formula gives for m, stopped at the largest number; that number's own hold is itself.
-fn stopped(m: u32, formula: u64) -> u32
-    ensures { result ≡ capped (λ _. formula) m }
-{
-    if m == u32::MAX || formula > u64::from(u32::MAX) {
-        u32::MAX
-    } else {
-        formula as u32
-    }
-}
+use holds::stopped;
 
 fn dispersal(m: u32) -> u32
     ensures { result ≡ dispersal_hold m }

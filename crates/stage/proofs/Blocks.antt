@@ -9,7 +9,7 @@ use Rattle.stage.specs.Model.{clean, after, offered, heard, heard_of}
 use Rattle.stage.specs.Rule.{Rule, Alphabet, Sends, Hears, Under, Begins, Back, Numbered}
 use Rattle.stage.specs.Blocks.{blocks, Coding, Covers, blockwise, block_sending, block_receiving}
 use Rattle.stage.specs.Faultless.{clean_hears, no_fault, heard_of_offered}
-use Rattle.stage.proofs.Holds.{capped_stops, capped-most, capped_grows, capped_claims}
+use Rattle.holds.proofs.Capped.{capped_stops, capped-most, capped_grows, capped_claims}
 
 module _ {K : Type 0} (turn : K → K) (code : K → List ℕ → List ℕ) (B : ℕ) where
   grows_if : (b : Bool) (p q r s : List ℕ) → Begins p r → Begins q s → Begins (cond b p q) (cond b r s)

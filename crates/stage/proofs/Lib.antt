@@ -5,7 +5,6 @@ pub mod Feeding
 pub mod Waits
 pub mod Waiting
 pub mod Offers
-pub mod Holds
 pub mod Machine
 pub mod Idle
 pub mod Blocks

@@ -5,7 +5,8 @@ use Rattle.std.proofs.lemmas.List.{append-nil, take_at}
 use Rattle.std.proofs.lemmas.Bool.{cases_lt, leb-true, ltb-true, lt-ltb}
 use Rattle.stage.specs.declared.Fault.{Fault}
 use Rattle.stage.specs.Model.{Model, and_then, silence}
-use Rattle.stage.specs.Rule.{Rule, Back, Under, Numbered, most}
+use Rattle.stage.specs.Rule.{Rule, Back, Under, Numbered}
+use Rattle.holds.specs.Capped.{most}
 use Rattle.stage.specs.Piled.{fits, fitting, keep_if, lifted, misfit_at, ending, or_misfit, hand_up, piled_if, piled}
 use Rattle.stage.proofs.PilingDown.{composed}
 use Rattle.stage.specs.Faultless.{no_fault}

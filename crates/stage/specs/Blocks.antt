@@ -2,7 +2,8 @@
 -- A block has a kind, which turns from each block to the next: where the code is the same for all blocks it is one kind, and even and odd blocks are two.
 use Rattle.std.specs.Prelude.{◌≡◌, ℕ, ◌+◌, ◌-◌, ◌*◌, ◌<◌, ◌≤◌, cond, List, [], ◌∷◌, ◌++◌, length, nat_le}
 use Rattle.stage.specs.Model.{Model, Sending, Receiving, clean, heard_of}
-use Rattle.stage.specs.Rule.{Under, capped}
+use Rattle.stage.specs.Rule.{Under}
+use Rattle.holds.specs.Capped.{capped}
 
 -- what a side gives for further units, where its block of B units is of kind k and holds `held` already
 unfoldable pub blocks : {K : Type 0} → (K → K) → (K → List ℕ → List ℕ) → ℕ → K → List ℕ → List ℕ → List ℕ

@@ -1,7 +1,7 @@
 -- A stage made for a code that may be unknown: for an unknown one it takes and gives nothing.
 use Rattle.std.specs.Prelude.{min, []}
 use Rattle.stage.specs.Model.{Model, Sending, Receiving, silence, new_sending, new_receiving}
-use Rattle.stage.specs.Rule.{most}
+use Rattle.holds.specs.Capped.{most}
 use Rattle.stage.specs.declared.known.Known.{Known}
 use Rattle.stage.specs.declared.known.Known.TheVariants.{Code, Unknown}
 

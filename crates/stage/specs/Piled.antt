@@ -8,7 +8,8 @@
 use Rattle.std.specs.Prelude.{◌≡◌, ℕ, ◌+◌, min, Bool, true, false, List, [], ◌∷◌, ◌++◌, Some, None, Option, nat_le, nat_lt}
 use Rattle.stage.specs.declared.Fault.{Fault}
 use Rattle.stage.specs.Model.{Heard, Model, Sending, Receiving, after, after_heard, and_then, hushed, new_sending, new_receiving}
-use Rattle.stage.specs.Rule.{Rule, most}
+use Rattle.stage.specs.Rule.{Rule}
+use Rattle.holds.specs.Capped.{most}
 
 -- units handed up, as far as the upper part hears them
 abbrev pub keep_if : Bool → ℕ → List ℕ → List ℕ

@@ -1,5 +1,4 @@
 -- What every stage owes: the stage rule, with its law.
---   most              where holds, sizes and stage numbers stop; a hold of it claims nothing
 --   Alphabet n        n is 0, or a power of two from 2 to 256
 --   Under n xs        every unit of xs is below n
 --   Begins p w        p is the beginning of w
@@ -8,14 +7,11 @@
 --   Back M xs m h     the law's promise: h has no fault and is the first units of xs, all but at most hold m
 --   Rule M            the stage with the model M keeps the rule
 --   Same M N          the stages with the models M and N are the same
---   capped formula    the hold that a formula gives, with the stop
-use Rattle.std.specs.Prelude.{◌≡◌, ℕ, ◌+◌, ◌-◌, ◌^◌, ◌<◌, ◌≤◌, min, cond, ◌⊎◌, List, [], ◌++◌, length, take, Some, None, nat_le}
+use Rattle.std.specs.Prelude.{◌≡◌, ℕ, ◌+◌, ◌-◌, ◌^◌, ◌<◌, ◌≤◌, ◌⊎◌, List, [], ◌++◌, length, take, Some, None}
 use Rattle.std.specs.List.{AllByRecursion}
+use Rattle.holds.specs.Capped.{most}
 use Rattle.stage.specs.declared.Fault.{Fault}
 use Rattle.stage.specs.Model.{Heard, Model, and_then, silence}
-
-abbrev pub most : ℕ
-most = 4294967295
 
 abbrev pub Alphabet : ℕ → Type 0
 Alphabet n = (n ≡ 0) ⊎ ((k : ℕ) × (1 ≤ k) × (k ≤ 8) × (n ≡ 2 ^ k))
@@ -73,6 +69,3 @@ pub record Same (M N : Model) : Type 0 where
   pub same_hold : (m : ℕ) → M.hold m ≡ N.hold m
   pub same_sends : (xs : List ℕ) → Under M.taken xs → M.sends xs ≡ N.sends xs
   pub same_hears : (ys : List ℕ) → Under M.given ys → M.hears ys ≡ N.hears ys
-
-abbrev pub capped : (ℕ → ℕ) → ℕ → ℕ
-capped formula m = cond (nat_le most m) most (min (formula m) most)

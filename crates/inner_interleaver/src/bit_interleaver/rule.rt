@@ -8,9 +8,10 @@ ghost use Rattle.inner_interleaver.specs.BitInterleaver.{bit_interleaving, bit_i
 ghost use Rattle.inner_interleaver.specs.BitBlocks.{bit_rule};
 ghost use Rattle.stage.proofs.Blocks.{blocks_sends, blocks_hears};
 
-use super::super::limits::{limit, stopped};
+use super::super::limits::limit;
 use super::super::words::{WORDS, bit, block, word};
 use super::BitInterleaver;
+use holds::stopped;
 use refusal::Refusal;
 use settings::Constellation;
 use stage::known::Known;

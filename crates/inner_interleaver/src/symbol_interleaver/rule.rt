@@ -10,11 +10,12 @@ ghost use Rattle.inner_interleaver.specs.Symbols.{symbol_rule};
 ghost use Rattle.permute.specs.Parity.{opposite};
 ghost use Rattle.stage.proofs.Blocks.{blocks_sends, blocks_hears};
 
-use super::super::limits::{limit, stopped};
+use super::super::limits::limit;
 use super::super::side::Side;
 use super::SymbolInterleaver;
 use address::Addresses;
 use permute::Parity;
+use holds::stopped;
 use refusal::Refusal;
 use settings::{Constellation, Mode};
 use stage::known::Known;

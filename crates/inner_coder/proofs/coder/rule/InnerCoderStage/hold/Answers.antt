@@ -1,6 +1,6 @@
 use Rattle.std.proofs.Common.{◌≡◌, min, leb, arith}
 use Rattle.std.proofs.lemmas.Bool.{cond_both, leb-true}
-use Rattle.stage.specs.Rule.{most}
+use Rattle.holds.specs.Capped.{most}
 use Rattle.inner_coder.proofs.coder.rule.InnerCoderStage.hold.Goals as goal
 
 pub returns : goal.returns

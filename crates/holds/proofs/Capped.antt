@@ -1,7 +1,7 @@
 -- The hold that a formula gives, with the stop: never smaller for a larger m, full from the stop on, and claiming no more than the formula.
 use Rattle.std.proofs.Common.{◌≡◌, ℕ, ◌<◌, ◌≤◌, min, leb, inl, inr, arith}
 use Rattle.std.proofs.lemmas.Bool.{cases_lt, cond_both, cond-true, cond-false, le-leb, lt-leb}
-use Rattle.stage.specs.Rule.{most, capped}
+use Rattle.holds.specs.Capped.{most, capped}
 
 module _ (formula : ℕ → ℕ) where
   pub capped_stops : (m : ℕ) → capped formula m ≤ most
