@@ -1,2 +1,2 @@
 pub mod Pile
-pub mod Parts
+pub mod New

@@ -5,8 +5,10 @@
 
 ghost use Rattle.std.specs.Prelude.{◌≡◌};
 ghost use Rattle.settings.specs.Hold.{standard_hold};
-ghost use Rattle.standard.specs.Pile.{words_for, coded_for, serialized_for, delayed_for, protected_for, standard_model, StandardHolds};
-ghost use Rattle.standard.specs.Parts.{IsNew, words, coded, serialized, delayed, protected, seven_stages};
+ghost use Rattle.stage.specs.Model.{Model};
+ghost use Rattle.stage.specs.Piled.{piled};
+ghost use Rattle.standard.specs.Pile.{standard_model, StandardHolds};
+ghost use Rattle.standard.specs.New.{IsNew};
 
 use dispersal::EnergyDispersal;
 use inner_coder::coder::InnerCoder;
@@ -29,48 +31,24 @@ pub type Protected = Pile<OuterCoder, Delayed>;
 
 pub type StandardPile = Pile<EnergyDispersal, Protected>;
 
-fn make_words(settings: &Settings) -> Words
-    ensures { IsNew words result (words_for settings.now.mode settings.now.constellation) }
+// A pile of new parts, which is new.
+fn over<U: Stage, L: Stage>(upper: U, lower: L) -> Pile<U, L>
+    ensures { (M N : Model) → IsNew U.Stage.model U.Stage.sending U.Stage.receiving upper M → IsNew L.Stage.model L.Stage.sending L.Stage.receiving lower N → IsNew ⟦<Pile<U, L> as Stage>⟧.model ⟦<Pile<U, L> as Stage>⟧.sending ⟦<Pile<U, L> as Stage>⟧.receiving result (piled M N) }
 {
-    let bits = BitInterleaver::of(settings.constellation);
-    let symbols = SymbolInterleaver::of(settings.mode, settings.constellation);
-    Pile::new(bits, symbols)
-}
-
-fn make_coded(settings: &Settings) -> Coded
-    ensures { IsNew coded result (coded_for settings.now.mode settings.now.constellation settings.now.rate) }
-{
-    let coder = InnerCoder::of(settings.rate);
-    Pile::new(coder, make_words(settings))
-}
-
-fn make_serialized(settings: &Settings) -> Serialized
-    ensures { IsNew serialized result (serialized_for settings.now.mode settings.now.constellation settings.now.rate) }
-{
-    let serializer = Serializer::new();
-    Pile::new(serializer, make_coded(settings))
-}
-
-fn make_delayed(settings: &Settings) -> Delayed
-    ensures { IsNew delayed result (delayed_for settings.now.mode settings.now.constellation settings.now.rate) }
-{
-    let interleaver = OuterInterleaver::new();
-    Pile::new(interleaver, make_serialized(settings))
-}
-
-fn make_protected(settings: &Settings) -> Protected
-    ensures { IsNew protected result (protected_for settings.now.mode settings.now.constellation settings.now.rate) }
-{
-    let coder = OuterCoder::new();
-    Pile::new(coder, make_delayed(settings))
+    Pile::new(upper, lower)
 }
 
 // A new pile for the settings.
 pub fn standard(settings: &Settings) -> StandardPile
-    ensures { IsNew seven_stages result (standard_model settings.now) }
+    ensures { IsNew ⟦<StandardPile as Stage>⟧.model ⟦<StandardPile as Stage>⟧.sending ⟦<StandardPile as Stage>⟧.receiving result (standard_model settings.now) }
 {
-    let dispersal = EnergyDispersal::new();
-    Pile::new(dispersal, make_protected(settings))
+    let symbols = SymbolInterleaver::of(settings.mode, settings.constellation);
+    let words = over(BitInterleaver::of(settings.constellation), symbols);
+    let coded = over(InnerCoder::of(settings.rate), words);
+    let serialized = over(Serializer::new(), coded);
+    let delayed = over(OuterInterleaver::new(), serialized);
+    let protected = over(OuterCoder::new(), delayed);
+    over(EnergyDispersal::new(), protected)
 }
 
 // Of the bytes sent, how many at most are not back yet while the last m cells are unheard.

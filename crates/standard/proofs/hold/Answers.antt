@@ -7,5 +7,5 @@ pub returns : goal.returns
 returns c =
     let s = c.args.settings.now in
     let m = c.args.m in
-    let asked : c.hold.result ≡ (standard_model s).hold m = c.hold.ensures ∙ ap (λ M. M.hold m) c.standard.ensures.model in
+    let asked : c.hold.result ≡ (standard_model s).hold m = c.hold.ensures ∙ ap (λ M. M.hold m) c.standard.ensures.model_is in
     asked ∙ (standard_holds_lem s).hold m
