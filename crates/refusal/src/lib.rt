@@ -5,29 +5,31 @@
 ghost use Rattle.std.specs.Prelude.{◌≡◌};
 ghost use Rattle.refusal.specs.Numbers.{number_of};
 
+mod words;
+
 #[derive(Clone, Copy, PartialEq, Eq, Debug)]
 pub enum Refusal {
-    UnknownMode,
-    UnknownConstellation,
-    UnknownRate,
-    UnknownGuard,
+    UnknownMode = 11,
+    UnknownConstellation = 12,
+    UnknownRate = 13,
+    UnknownGuard = 14,
     // A packet, a collect buffer or a protected packet of another length than it has to be.
-    PacketLength,
-    BufferShort,
+    PacketLength = 15,
+    BufferShort = 16,
     // A frame that isn't 1 to 4, or a parity that isn't 0 or 1.
-    FrameOrParity,
-    RecordMalformed,
-    UnitTooLarge,
-    SomethingWaits,
-    NotStarted,
-    CellsWait,
-    FirstByte,
+    FrameOrParity = 17,
+    RecordMalformed = 18,
+    UnitTooLarge = 21,
+    SomethingWaits = 22,
+    NotStarted = 30,
+    CellsWait = 31,
+    FirstByte = 32,
     // The accepted packets aren't a multiple of those in a super-frame.
-    PartSuperFrame,
-    Closed,
-    Started,
+    PartSuperFrame = 33,
+    Closed = 34,
+    Started = 35,
     // The pile doesn't take bytes, or holds back a whole super-frame.
-    PileUnfit,
+    PileUnfit = 36,
 }
 
 impl Refusal {
@@ -35,24 +37,6 @@ impl Refusal {
     pub fn number(self) -> u8
         ensures { result ≡ number_of self }
     {
-        match self {
-            Refusal::UnknownMode => 11,
-            Refusal::UnknownConstellation => 12,
-            Refusal::UnknownRate => 13,
-            Refusal::UnknownGuard => 14,
-            Refusal::PacketLength => 15,
-            Refusal::BufferShort => 16,
-            Refusal::FrameOrParity => 17,
-            Refusal::RecordMalformed => 18,
-            Refusal::UnitTooLarge => 21,
-            Refusal::SomethingWaits => 22,
-            Refusal::NotStarted => 30,
-            Refusal::CellsWait => 31,
-            Refusal::FirstByte => 32,
-            Refusal::PartSuperFrame => 33,
-            Refusal::Closed => 34,
-            Refusal::Started => 35,
-            Refusal::PileUnfit => 36,
-        }
+        self as u8
     }
 }
