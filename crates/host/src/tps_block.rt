@@ -14,7 +14,7 @@ fn write(bytes: &[u8], frame: u32, buffer: &mut [u8]) -> Result<(), Refusal>
     ensures answer { refused_by result ≡ refused (settings_from bytes.now) frame buffer.old }
     ensures buffer { buffer.new ≡ after (settings_from bytes.now) frame buffer.old }
 {
-    let settings = Settings::from_record(bytes)?;
+    let settings = Settings::try_from(bytes)?;
     // A number past 255 is no frame, and neither is 0.
     let frame = u8::try_from(frame).unwrap_or(0);
     write_block(&settings, frame, buffer)

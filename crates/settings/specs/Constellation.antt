@@ -1,5 +1,5 @@
 -- The constellation, by its code, and the bits in a cell word.
-use Rattle.std.specs.Prelude.{ℕ, List, [], ◌∷◌, Result}
+use Rattle.std.specs.Prelude.{ℕ, List, [], ◌∷◌, codes, Result}
 use Rattle.refusal.specs.declared.Refusal.{Refusal}
 use Rattle.refusal.specs.declared.Refusal.TheVariants.{UnknownConstellation}
 use Rattle.settings.specs.declared.constellation.Constellation.{Constellation}
@@ -22,3 +22,9 @@ abbrev pub word_bits : Constellation → ℕ
 word_bits Qpsk = 2
 word_bits Qam16 = 4
 word_bits Qam64 = 6
+
+-- as it is printed
+abbrev pub constellation_name : Constellation → List ℕ
+constellation_name Qpsk = codes "QPSK"
+constellation_name Qam16 = codes "16-QAM"
+constellation_name Qam64 = codes "64-QAM"

@@ -1,5 +1,5 @@
 -- The transmission mode, by its code, and the cells of a symbol that carry data.
-use Rattle.std.specs.Prelude.{ℕ, List, [], ◌∷◌, Result}
+use Rattle.std.specs.Prelude.{ℕ, List, [], ◌∷◌, codes, Result}
 use Rattle.refusal.specs.declared.Refusal.{Refusal}
 use Rattle.refusal.specs.declared.Refusal.TheVariants.{UnknownMode}
 use Rattle.settings.specs.declared.mode.Mode.{Mode}
@@ -20,3 +20,8 @@ mode_code EightK = 1
 abbrev pub symbol_cells : Mode → ℕ
 symbol_cells TwoK = 1512
 symbol_cells EightK = 6048
+
+-- as it is printed
+abbrev pub mode_name : Mode → List ℕ
+mode_name TwoK = codes "2K"
+mode_name EightK = codes "8K"

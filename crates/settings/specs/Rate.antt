@@ -1,5 +1,5 @@
 -- The rate of the inner code, by its code, and as a fraction.
-use Rattle.std.specs.Prelude.{ℕ, List, [], ◌∷◌, Result}
+use Rattle.std.specs.Prelude.{ℕ, List, [], ◌∷◌, codes, Result}
 use Rattle.refusal.specs.declared.Refusal.{Refusal}
 use Rattle.refusal.specs.declared.Refusal.TheVariants.{UnknownRate}
 use Rattle.settings.specs.declared.rate.Rate.{Rate}
@@ -33,3 +33,11 @@ rate_under TwoThirds = 3
 rate_under ThreeQuarters = 4
 rate_under FiveSixths = 6
 rate_under SevenEighths = 8
+
+-- as it is printed
+abbrev pub rate_name : Rate → List ℕ
+rate_name Half = codes "1/2"
+rate_name TwoThirds = codes "2/3"
+rate_name ThreeQuarters = codes "3/4"
+rate_name FiveSixths = codes "5/6"
+rate_name SevenEighths = codes "7/8"

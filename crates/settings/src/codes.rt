@@ -23,15 +23,17 @@ fn codes_stand()
     ensures { CodesStand }
 {}
 
-impl Settings {
-    // The first unknown code refuses: mode, constellation, rate, then guard.
-    pub fn read(codes: &Codes) -> Result<Settings, Refusal>
-        ensures { result ≡ settings_read codes.now }
-    {
-        let mode = Mode::read(codes.mode)?;
-        let constellation = Constellation::read(codes.constellation)?;
-        let rate = Rate::read(codes.rate)?;
-        let guard = Guard::read(codes.guard)?;
+// The first unknown code refuses: mode, constellation, rate, then guard.
+impl TryFrom<&Codes> for Settings {
+    type Error = Refusal;
+
+    ghost try_from_gives = { λ codes r. r ≡ settings_read codes.now };
+
+    fn try_from(codes: &Codes) -> Result<Settings, Refusal> {
+        let mode = Mode::try_from(codes.mode)?;
+        let constellation = Constellation::try_from(codes.constellation)?;
+        let rate = Rate::try_from(codes.rate)?;
+        let guard = Guard::try_from(codes.guard)?;
         Ok(Settings {
             mode,
             constellation,
@@ -40,7 +42,10 @@ impl Settings {
             identifier: codes.identifier,
         })
     }
+}
 
+impl Settings {
+    // A method and no `From`: the law stands on it as a clause of its own.
     pub fn codes(&self) -> Codes
         ensures value { result ≡ settings_codes self.now }
         ensures law { CodesStand }

@@ -1,20 +1,23 @@
 // The constellation (EN 300 744, clause 4.6.2.5): how many bits a cell word has.
-ghost use Rattle.std.specs.Prelude.{◌≡◌, ◌≤◌};
-ghost use Rattle.settings.specs.Constellation.{constellation_read, constellation_code, word_bits};
+ghost use Rattle.std.specs.Prelude.{◌≡◌, ◌≤◌, Some};
+ghost use Rattle.settings.specs.Constellation.{constellation_read, constellation_code, word_bits, constellation_name};
 
 use refusal::Refusal;
+use std::fmt;
 
 #[derive(Clone, Copy, PartialEq, Eq, Debug)]
 pub enum Constellation {
-    Qpsk,
-    Qam16,
-    Qam64,
+    Qpsk = 0,
+    Qam16 = 1,
+    Qam64 = 2,
 }
 
-impl Constellation {
-    pub fn read(code: u8) -> Result<Constellation, Refusal>
-        ensures { result ≡ constellation_read code }
-    {
+impl TryFrom<u8> for Constellation {
+    type Error = Refusal;
+
+    ghost try_from_gives = { λ code r. r ≡ constellation_read code };
+
+    fn try_from(code: u8) -> Result<Constellation, Refusal> {
         match code {
             0 => Ok(Constellation::Qpsk),
             1 => Ok(Constellation::Qam16),
@@ -22,15 +25,13 @@ impl Constellation {
             _ => Err(Refusal::UnknownConstellation),
         }
     }
+}
 
+impl Constellation {
     pub fn code(self) -> u8
         ensures { result ≡ constellation_code self }
     {
-        match self {
-            Constellation::Qpsk => 0,
-            Constellation::Qam16 => 1,
-            Constellation::Qam64 => 2,
-        }
+        self as u8
     }
 
     // The bits in a cell word.
@@ -43,5 +44,17 @@ impl Constellation {
             Constellation::Qam16 => 4,
             Constellation::Qam64 => 6,
         }
+    }
+}
+
+impl fmt::Display for Constellation {
+    ghost output = { λ constellation. Some (constellation_name constellation) };
+
+    fn fmt<W: fmt::Write>(&self, f: &mut fmt::Formatter<W>) -> fmt::Result {
+        f.write_str(match self {
+            Constellation::Qpsk => "QPSK",
+            Constellation::Qam16 => "16-QAM",
+            Constellation::Qam64 => "64-QAM",
+        })
     }
 }

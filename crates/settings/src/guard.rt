@@ -6,16 +6,18 @@ use refusal::Refusal;
 
 #[derive(Clone, Copy, PartialEq, Eq, Debug)]
 pub enum Guard {
-    ThirtySecond,
-    Sixteenth,
-    Eighth,
-    Quarter,
+    ThirtySecond = 0,
+    Sixteenth = 1,
+    Eighth = 2,
+    Quarter = 3,
 }
 
-impl Guard {
-    pub fn read(code: u8) -> Result<Guard, Refusal>
-        ensures { result ≡ guard_read code }
-    {
+impl TryFrom<u8> for Guard {
+    type Error = Refusal;
+
+    ghost try_from_gives = { λ code r. r ≡ guard_read code };
+
+    fn try_from(code: u8) -> Result<Guard, Refusal> {
         match code {
             0 => Ok(Guard::ThirtySecond),
             1 => Ok(Guard::Sixteenth),
@@ -24,15 +26,12 @@ impl Guard {
             _ => Err(Refusal::UnknownGuard),
         }
     }
+}
 
+impl Guard {
     pub fn code(self) -> u8
         ensures { result ≡ guard_code self }
     {
-        match self {
-            Guard::ThirtySecond => 0,
-            Guard::Sixteenth => 1,
-            Guard::Eighth => 2,
-            Guard::Quarter => 3,
-        }
+        self as u8
     }
 }

@@ -1,33 +1,35 @@
 // The transmission mode (EN 300 744, clause 4.6.2.9): how many cells a symbol has.
-ghost use Rattle.std.specs.Prelude.{◌≡◌, ◌≤◌};
-ghost use Rattle.settings.specs.Mode.{mode_read, mode_code, symbol_cells};
+ghost use Rattle.std.specs.Prelude.{◌≡◌, ◌≤◌, Some};
+ghost use Rattle.settings.specs.Mode.{mode_read, mode_code, symbol_cells, mode_name};
 
 use refusal::Refusal;
+use std::fmt;
 
 #[derive(Clone, Copy, PartialEq, Eq, Debug)]
 pub enum Mode {
-    TwoK,
-    EightK,
+    TwoK = 0,
+    EightK = 1,
 }
 
-impl Mode {
-    pub fn read(code: u8) -> Result<Mode, Refusal>
-        ensures { result ≡ mode_read code }
-    {
+impl TryFrom<u8> for Mode {
+    type Error = Refusal;
+
+    ghost try_from_gives = { λ code r. r ≡ mode_read code };
+
+    fn try_from(code: u8) -> Result<Mode, Refusal> {
         match code {
             0 => Ok(Mode::TwoK),
             1 => Ok(Mode::EightK),
             _ => Err(Refusal::UnknownMode),
         }
     }
+}
 
+impl Mode {
     pub fn code(self) -> u8
         ensures { result ≡ mode_code self }
     {
-        match self {
-            Mode::TwoK => 0,
-            Mode::EightK => 1,
-        }
+        self as u8
     }
 
     // The cells of a symbol that carry data.
@@ -39,5 +41,16 @@ impl Mode {
             Mode::TwoK => 1512,
             Mode::EightK => 6048,
         }
+    }
+}
+
+impl fmt::Display for Mode {
+    ghost output = { λ mode. Some (mode_name mode) };
+
+    fn fmt<W: fmt::Write>(&self, f: &mut fmt::Formatter<W>) -> fmt::Result {
+        f.write_str(match self {
+            Mode::TwoK => "2K",
+            Mode::EightK => "8K",
+        })
     }
 }

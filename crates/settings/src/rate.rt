@@ -1,22 +1,25 @@
 // The rate of the inner code (EN 300 744, clause 4.6.2.7): message bits for each bit sent.
-ghost use Rattle.std.specs.Prelude.{◌≡◌, ◌≤◌};
-ghost use Rattle.settings.specs.Rate.{rate_read, rate_code, rate_over, rate_under};
+ghost use Rattle.std.specs.Prelude.{◌≡◌, ◌≤◌, Some};
+ghost use Rattle.settings.specs.Rate.{rate_read, rate_code, rate_over, rate_under, rate_name};
 
 use refusal::Refusal;
+use std::fmt;
 
 #[derive(Clone, Copy, PartialEq, Eq, Debug)]
 pub enum Rate {
-    Half,
-    TwoThirds,
-    ThreeQuarters,
-    FiveSixths,
-    SevenEighths,
+    Half = 0,
+    TwoThirds = 1,
+    ThreeQuarters = 2,
+    FiveSixths = 3,
+    SevenEighths = 4,
 }
 
-impl Rate {
-    pub fn read(code: u8) -> Result<Rate, Refusal>
-        ensures { result ≡ rate_read code }
-    {
+impl TryFrom<u8> for Rate {
+    type Error = Refusal;
+
+    ghost try_from_gives = { λ code r. r ≡ rate_read code };
+
+    fn try_from(code: u8) -> Result<Rate, Refusal> {
         match code {
             0 => Ok(Rate::Half),
             1 => Ok(Rate::TwoThirds),
@@ -26,17 +29,13 @@ impl Rate {
             _ => Err(Refusal::UnknownRate),
         }
     }
+}
 
+impl Rate {
     pub fn code(self) -> u8
         ensures { result ≡ rate_code self }
     {
-        match self {
-            Rate::Half => 0,
-            Rate::TwoThirds => 1,
-            Rate::ThreeQuarters => 2,
-            Rate::FiveSixths => 3,
-            Rate::SevenEighths => 4,
-        }
+        self as u8
     }
 
     // The rate as a fraction: this many message bits ..
@@ -65,5 +64,19 @@ impl Rate {
             Rate::FiveSixths => 6,
             Rate::SevenEighths => 8,
         }
+    }
+}
+
+impl fmt::Display for Rate {
+    ghost output = { λ rate. Some (rate_name rate) };
+
+    fn fmt<W: fmt::Write>(&self, f: &mut fmt::Formatter<W>) -> fmt::Result {
+        f.write_str(match self {
+            Rate::Half => "1/2",
+            Rate::TwoThirds => "2/3",
+            Rate::ThreeQuarters => "3/4",
+            Rate::FiveSixths => "5/6",
+            Rate::SevenEighths => "7/8",
+        })
     }
 }

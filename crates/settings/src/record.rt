@@ -8,10 +8,12 @@ use super::Settings;
 use super::codes::Codes;
 use refusal::Refusal;
 
-impl Codes {
-    pub fn parse(bytes: &[u8]) -> Result<Codes, Refusal>
-        ensures { result ≡ record_read bytes.now }
-    {
+impl TryFrom<&[u8]> for Codes {
+    type Error = Refusal;
+
+    ghost try_from_gives = { λ bytes r. r ≡ record_read bytes.now };
+
+    fn try_from(bytes: &[u8]) -> Result<Codes, Refusal> {
         let [0, 8, 1, mode, constellation, rate, guard, flag, high, low] = bytes else {
             return Err(Refusal::RecordMalformed);
         };
@@ -49,14 +51,19 @@ fn records_stand()
     ensures { RecordsStand }
 {}
 
-impl Settings {
-    pub fn from_record(bytes: &[u8]) -> Result<Settings, Refusal>
-        ensures { result ≡ settings_from bytes.now }
-    {
-        let codes = Codes::parse(bytes)?;
-        Settings::read(&codes)
-    }
+impl TryFrom<&[u8]> for Settings {
+    type Error = Refusal;
 
+    ghost try_from_gives = { λ bytes r. r ≡ settings_from bytes.now };
+
+    fn try_from(bytes: &[u8]) -> Result<Settings, Refusal> {
+        let codes = Codes::try_from(bytes)?;
+        Settings::try_from(&codes)
+    }
+}
+
+impl Settings {
+    // A method and no `From`: the law stands on it as a clause of its own.
     pub fn to_record(&self) -> [u8; 10]
         ensures value { result ≡ record_of (settings_codes self.now) }
         ensures law { RecordsStand }

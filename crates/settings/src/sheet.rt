@@ -14,11 +14,13 @@ pub struct Sheet {
     pub hold: u32,
 }
 
-impl Sheet {
-    pub fn of(bytes: &[u8]) -> Result<Sheet, Refusal>
-        ensures { result ≡ sheet_of bytes.now }
-    {
-        let settings = Settings::from_record(bytes)?;
+impl TryFrom<&[u8]> for Sheet {
+    type Error = Refusal;
+
+    ghost try_from_gives = { λ bytes r. r ≡ sheet_of bytes.now };
+
+    fn try_from(bytes: &[u8]) -> Result<Sheet, Refusal> {
+        let settings = Settings::try_from(bytes)?;
         Ok(Sheet {
             packets: settings.packets(),
             cells: settings.cells(),

@@ -14,7 +14,7 @@ const REFUSED: [([u8; 10], u8); 8] = [
 ];
 
 fn sheet_or_number(bytes: &[u8]) -> (u32, u32, u32) {
-    match Sheet::of(bytes) {
+    match Sheet::try_from(bytes) {
         Ok(sheet) => (sheet.packets, sheet.cells, sheet.hold),
         Err(refusal) => (0, 0, u32::from(refusal.number())),
     }

@@ -1,7 +1,7 @@
 -- What the sheet program prints.
 use Rattle.std.specs.Prelude.{ℕ, List, [], ◌∷◌, ◌++◌, Ok, Err, codes, decimal, Result}
 use Rattle.refusal.specs.declared.Refusal.{Refusal}
-use Rattle.refusal.specs.Numbers.{number_of}
+use Rattle.refusal.specs.Words.{refusal_words}
 use Rattle.settings.specs.declared.sheet.Sheet.{Sheet}
 use Rattle.settings.specs.Sheet.{sheet_of}
 
@@ -11,7 +11,7 @@ line word n rest = word ++ (codes " " ++ (decimal n ++ 10 ∷ rest))
 
 abbrev pub lines : Result Sheet Refusal → List ℕ
 lines (Ok s) = line (codes "packets") s.packets (line (codes "cells") s.cells (line (codes "hold") s.hold []))
-lines (Err r) = line (codes "refused") (number_of r) []
+lines (Err r) = refusal_words r ++ 10 ∷ []
 
 abbrev pub report_of : List ℕ → List ℕ
 report_of bs = lines (sheet_of bs)

@@ -8,7 +8,7 @@ use std::alloc::{AllocError, Global};
 pub(crate) fn report(heap: Global, input: &[u8]) -> Result<String, AllocError>
     ensures { IfOk result (λ text. string_bytes text ≡ report_of input.now) }
 {
-    match Sheet::of(input) {
+    match Sheet::try_from(input) {
         Ok(sheet) => {
             let Sheet {
                 packets,
@@ -17,9 +17,6 @@ pub(crate) fn report(heap: Global, input: &[u8]) -> Result<String, AllocError>
             } = sheet;
             format!(in heap; "packets {packets}\ncells {cells}\nhold {hold}\n")
         }
-        Err(refusal) => {
-            let number = refusal.number();
-            format!(in heap; "refused {number}\n")
-        }
+        Err(refusal) => format!(in heap; "{refusal}\n"),
     }
 }
