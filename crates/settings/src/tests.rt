@@ -1,5 +1,6 @@
 // Sheets of records by hand, and each refusal of a record in its order.
 use super::Sheet;
+use refusal::Refusal;
 
 // Mode, constellation, rate and guard, each with a code that is none, and then a bad record of ten bytes: the numbers that refuse them.
 const REFUSED: [([u8; 10], u8); 8] = [
@@ -13,33 +14,30 @@ const REFUSED: [([u8; 10], u8); 8] = [
     ([0, 8, 1, 2, 0, 0, 0, 0, 0, 1], 18),
 ];
 
-fn sheet_or_number(bytes: &[u8]) -> (u32, u32, u32) {
-    match Sheet::try_from(bytes) {
-        Ok(sheet) => (sheet.packets, sheet.cells, sheet.hold),
-        Err(refusal) => (0, 0, u32::from(refusal.number())),
-    }
+// The sheet's three numbers, or the refusal's.
+fn numbers(record: &[u8]) -> Result<(u32, u32, u32), u8> {
+    Sheet::try_from(record)
+        .map(|sheet| (sheet.packets, sheet.cells, sheet.hold))
+        .map_err(Refusal::number)
 }
 
 #[test]
 fn sheets(rt: HostRuntime) {
     assert_eq!(rt;
-        sheet_or_number(&[0, 8, 1, 0, 0, 0, 0, 0, 0, 0]),
-        (252, 411264, 3250)
+        numbers(&[0, 8, 1, 0, 0, 0, 0, 0, 0, 0]),
+        Ok((252, 411264, 3250))
     );
     assert_eq!(rt;
-        sheet_or_number(&[0, 8, 1, 1, 2, 4, 3, 1, 255, 255]),
-        (5292, 1645056, 11690)
+        numbers(&[0, 8, 1, 1, 2, 4, 3, 1, 255, 255]),
+        Ok((5292, 1645056, 11690))
     );
-    assert_eq!(rt; sheet_or_number(&[0, 8, 1, 0, 0, 0, 0, 0, 0]), (0, 0, 18));
-    assert_eq!(rt;
-        sheet_or_number(&[0, 8, 1, 0, 0, 0, 0, 0, 0, 0, 0]),
-        (0, 0, 18)
-    );
+    assert_eq!(rt; numbers(&[0, 8, 1, 0, 0, 0, 0, 0, 0]), Err(18));
+    assert_eq!(rt; numbers(&[0, 8, 1, 0, 0, 0, 0, 0, 0, 0, 0]), Err(18));
 }
 
 #[test]
 fn refusals(rt: HostRuntime) {
     for (record, number) in REFUSED {
-        assert_eq!(rt; sheet_or_number(&record), (0, 0, u32::from(number)));
+        assert_eq!(rt; numbers(&record), Err(number));
     }
 }
