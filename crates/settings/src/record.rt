@@ -14,19 +14,19 @@ impl TryFrom<&[u8]> for Codes {
     ghost try_from_gives = { λ bytes r. r ≡ record_read bytes.now };
 
     fn try_from(bytes: &[u8]) -> Result<Codes, Refusal> {
-        let [0, 8, 1, mode, constellation, rate, guard, flag, high, low] = bytes else {
+        let &[0, 8, 1, mode, constellation, rate, guard, flag, high, low] = bytes else {
             return Err(Refusal::RecordMalformed);
         };
-        let identifier = match (*flag, u16::from_be_bytes([*high, *low])) {
+        let identifier = match (flag, u16::from_be_bytes([high, low])) {
             (0, 0) => None,
             (1, number) => Some(number),
             _ => return Err(Refusal::RecordMalformed),
         };
         Ok(Codes {
-            mode: *mode,
-            constellation: *constellation,
-            rate: *rate,
-            guard: *guard,
+            mode,
+            constellation,
+            rate,
+            guard,
             identifier,
         })
     }
@@ -69,19 +69,14 @@ impl Settings {
         ensures law { RecordsStand }
     {
         records_stand();
-        let codes = self.codes();
-        let [flag, high, low] = identifier_part(codes.identifier);
-        [
-            0,
-            8,
-            1,
-            codes.mode,
-            codes.constellation,
-            codes.rate,
-            codes.guard,
-            flag,
-            high,
-            low,
-        ]
+        let Codes {
+            mode,
+            constellation,
+            rate,
+            guard,
+            identifier,
+        } = self.codes();
+        let [flag, high, low] = identifier_part(identifier);
+        [0, 8, 1, mode, constellation, rate, guard, flag, high, low]
     }
 }
