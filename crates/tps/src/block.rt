@@ -1,9 +1,9 @@
 // The TPS block of a frame (EN 300 744, clause 4.6.2): settings and a frame from 1 to 4 in, the bits s1 to s67 out, one to a byte.
 ghost use Rattle.std.specs.Prelude.{◌≡◌, ◌≤◌};
 ghost use Rattle.refusal.specs.Numbers.{refused_by};
-ghost use Rattle.tps.specs.Block.{synchronisation, length_indicator, identifier_byte, fields as fields_of, refused, after};
+ghost use Rattle.tps.specs.Block.{synchronisation, length_indicator, identifier_byte, fields as fields_of, block as block_of, refused, after};
 
-use super::field::{Field, write_all};
+use super::field::{BLOCK_BITS, Bits, Field, send_all};
 use super::protection::remainder;
 use refusal::Refusal;
 use settings::Settings;
@@ -11,8 +11,6 @@ use settings::Settings;
 const INFORMATION_BITS: usize = 53;
 
 const PARITY_BITS: usize = 14;
-
-const BLOCK_BITS: usize = 67;
 
 fn synchronisation_word(frame: u8) -> u32
     ensures { result ≡ synchronisation frame }
@@ -38,12 +36,9 @@ fn byte_of(frame: u8, identifier: Option<u16>) -> u32
 {
     match identifier {
         None => 0,
-        Some(id) => {
-            if frame % 2 == 1 {
-                u32::from(id) / 256
-            } else {
-                u32::from(id) % 256
-            }
+        Some(number) => {
+            let [high, low] = number.to_be_bytes();
+            u32::from(if frame % 2 == 1 { high } else { low })
         }
     }
 }
@@ -68,7 +63,21 @@ fn fields(settings: &Settings, frame: u8) -> [Field; 11]
     ]
 }
 
+// The parity is worked out over zeros in its place.
+fn block(settings: &Settings, frame: u8) -> Bits
+    requires { 1 ≤ frame }
+    ensures { result.items ≡ block_of settings.now frame }
+{
+    let mut bits = send_all(&fields(settings, frame));
+    Field::new(PARITY_BITS, 0).send(&mut bits);
+    let parity = remainder(bits.as_slice());
+    bits.truncate(INFORMATION_BITS);
+    Field::new(PARITY_BITS, parity).send(&mut bits);
+    bits
+}
+
 // Writes the block at the front of a buffer; the rest of the buffer stays.
+#[tactic(auto, using(crate::proofs::Signalling::accepted))]
 pub fn write_block(settings: &Settings, frame: u8, buffer: &mut [u8]) -> Result<(), Refusal>
     ensures answer { refused_by result ≡ refused frame buffer.old }
     ensures buffer { buffer.new ≡ after (refused frame buffer.old) settings.now frame buffer.old }
@@ -79,9 +88,6 @@ pub fn write_block(settings: &Settings, frame: u8, buffer: &mut [u8]) -> Result<
     if buffer.len() < BLOCK_BITS {
         return Err(Refusal::BufferShort);
     }
-    write_all(&fields(settings, frame), buffer);
-    Field::new(PARITY_BITS, 0).write(buffer, INFORMATION_BITS);
-    let parity = remainder(&buffer[..BLOCK_BITS]);
-    Field::new(PARITY_BITS, parity).write(buffer, INFORMATION_BITS);
+    buffer[..BLOCK_BITS].copy_from_slice(block(settings, frame).as_slice());
     Ok(())
 }

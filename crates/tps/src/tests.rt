@@ -15,8 +15,8 @@ fn lower_byte_in_frame_two(rt: HostRuntime) {
     };
     let mut buffer = [9; 68];
     assert!(rt; write_block(&settings, 2, &mut buffer).is_ok());
-    for i in 0..67usize {
-        assert_eq!(rt; buffer[i] == 1, EXPECTED[i] == b'1');
+    for (found, expected) in buffer.iter().zip(EXPECTED) {
+        assert_eq!(rt; *found == 1, *expected == b'1');
     }
     assert_eq!(rt; buffer[67], 9);
 }
