@@ -1,4 +1,5 @@
 // What a C program links: the exports of the library `host`, each with the clauses of the function that it calls. host/tavzsumer.h declares them.
+// A library exports nothing to C, and a static library is a crate of its own: so each function stands here a second time.
 
 #![tactic(auto)]
 

@@ -1,14 +1,13 @@
 -- A block is sent: its fields, zeros in the place of the parity, and then the parity.
-use Rattle.std.proofs.Common.{◌≡◌, ℕ, ◌<◌, ◌≤◌, List, ◌++◌, length, take, None, refl, ap, ◌∙◌, arith, length-append}
+use Rattle.std.proofs.Common.{◌≡◌, ℕ, ◌<◌, List, ◌++◌, length, take, refl, ap, ◌∙◌, arith, length-append}
 use Rattle.std.specs.List.{AllByRecursion}
 use Rattle.std.proofs.lemmas.List.{take_at}
 use Rattle.std.proofs.ByRecursion.{All-append}
-use Rattle.std.proofs.lemmas.Bool.{le-leb}
 use Rattle.settings.specs.declared.Settings.{Settings}
 use Rattle.tps.specs.declared.field.Field.{Field}
 use Rattle.tps.specs.Field.{bits, field, sent}
 use Rattle.tps.specs.Protection.{remainder_from, parity}
-use Rattle.tps.specs.Block.{fields, information, block, refused}
+use Rattle.tps.specs.Block.{fields, information, block}
 use Rattle.tps.proofs.Bits.{sent_binary, bits-length, bits_binary}
 
 pub information-length : (s : Settings) (frame : ℕ) → length (information s frame) ≡ 53
@@ -41,6 +40,3 @@ unfolding block parity
 block_length s frame =
     let n = remainder_from 0 (information s frame ++ bits 14 0) in
     omega (arith, length-append (information s frame) (bits 14 n), information-length s frame, bits-length 14 n)
-
-pub accepted : (frame : ℕ) (B : List ℕ) → 1 ≤ frame → frame ≤ 4 → 67 ≤ length B → refused frame B ≡ None
-accepted frame B a b c = simp (le-leb 1 frame a, le-leb frame 4 b, le-leb 67 (length B) c)

@@ -77,7 +77,6 @@ fn block(settings: &Settings, frame: u8) -> Bits
 }
 
 // Writes the block at the front of a buffer; the rest of the buffer stays.
-#[tactic(auto, using(crate::proofs::Signalling::accepted))]
 pub fn write_block(settings: &Settings, frame: u8, buffer: &mut [u8]) -> Result<(), Refusal>
     ensures answer { refused_by result ≡ refused frame buffer.old }
     ensures buffer { buffer.new ≡ after (refused frame buffer.old) settings.now frame buffer.old }

@@ -1,5 +1,5 @@
 use Rattle.std.proofs.Common.{◌≡◌, ◌+◌, ◌*◌, ◌^◌, ◌<◌, length, get_or, drop, sym, ap, ◌∙◌, subst, arith}
-use Rattle.std.proofs.lemmas.List.{at_drop_more, at_drop_all}
+use Rattle.std.proofs.lemmas.List.{at_drop_more}
 use Rattle.std.proofs.ByRecursion.{All-get_or}
 use Rattle.tps.specs.Protection.{reduced, remainder_from}
 use Rattle.tps.proofs.Dividing.{reduced_less}
@@ -17,6 +17,3 @@ loop-bit-preserved c =
       subst (λ v. v < 2 ^ 14) (sym e) (reduced_less (2 * r + b) (omega arith)),
       ap (λ v. remainder_from v (drop (i + 1) bs)) e ∙ sym (at_drop_more (remainder_from r) bs i 0 inside) ∙ c.loop-bit.invariant.1,
     )
-
-pub returns : goal.returns
-returns c = sym (at_drop_all (remainder_from c.loop-bit.r) c.args.bits.now c.loop-bit.bit-index c.loop-bit-test.false) ∙ c.loop-bit.invariant.1
