@@ -18,8 +18,6 @@ pub struct Codes {
     pub identifier: Option<u16>,
 }
 
-// Each of the four tables is a `match` of its own, a code beside its value, since nothing is written over all four.
-
 // The law that `codes` states; it runs nothing.
 fn codes_stand()
     ensures { CodesStand }

@@ -1,4 +1,5 @@
 // The settings of a broadcast (EN 300 744, clause 4.6.2): five numbers at the edge, named values inside.
+// Mode, constellation, rate and guard each read their codes by a `match` of their own, since nothing is written over all four.
 
 #![tactic(auto)]
 
