@@ -11,8 +11,8 @@ pub(crate) fn scatter<T: Copy>(table: &[u16], from: &[T], to: &mut [T])
     ensures moved { Moved table.now from.now to.new }
     ensures rest { (k : ℕ) (d : T) → length table.now ≤ k → slice_index_or to.new k d ≡ slice_index_or to.old k d }
 {
-    for q in 0..table.len() {
-        to[table[q] as usize] = from[q];
+    for (q, &at) in table.iter().enumerate() {
+        to[at as usize] = from[q];
     }
 }
 
@@ -24,7 +24,7 @@ pub(crate) fn gather<T: Copy>(table: &[u16], from: &[T], to: &mut [T])
     ensures moved { Moved table.now to.new from.now }
     ensures rest { (k : ℕ) (d : T) → length table.now ≤ k → slice_index_or to.new k d ≡ slice_index_or to.old k d }
 {
-    for q in 0..table.len() {
-        to[q] = from[table[q] as usize];
+    for (q, &at) in table.iter().enumerate() {
+        to[q] = from[at as usize];
     }
 }
