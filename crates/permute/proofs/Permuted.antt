@@ -110,18 +110,20 @@ module _ (n : ℕ) (hs : List ℕ) (s : Permutes n hs) where
               rest k e i ∙ sym (get_or-append_right front (drop n old) n k e lf i ∙ get_or-drop n old (k - n) e ∙ ap (λ (x : ℕ). get_or old x e) j)
         ])
 
--- what a call answers and leaves that wasn't refused
-module _ {X : Type 0} (hs : List ℕ) (xs old : List X) (from : length hs ≤ length xs) (to : length hs ≤ length old) where
-  roomy : short hs xs old ≡ false
-  roomy = ap₂ ◌||◌ (le-ltb (length xs) (length hs) from) (le-ltb (length old) (length hs) to)
+-- what a call answers and leaves that wasn't refused, by a table that is hs
+module _ {X : Type 0} (table hs : List ℕ) (is : table ≡ hs) (xs old : List X) (from : length table ≤ length xs) (to : length table ≤ length old) where
+  roomy : short table xs old ≡ false
+  roomy = ap₂ ◌||◌ (le-ltb (length xs) (length table) from) (le-ltb (length old) (length table) to)
 
   pub answer : None ≡ refusal_of hs xs old
-  answer = sym (cond-false (short hs xs old) (Some 16) None roomy)
+  answer = sym (cond-false (short table xs old) (Some 16) None roomy) ∙ ap (λ ts. refusal_of ts xs old) is
 
-  pub buffer : (p : Parity) (d : X) (ys : List X) → Permutes (length hs) hs → length ys ≡ length old → Interleaved p hs xs ys
-      → ((k : ℕ) (e : X) → length hs ≤ k → get_or ys k e ≡ get_or old k e) → ys ≡ buffer_after p hs d xs old
-  buffer p d ys s same m rest =
-      buffer_is (length hs) hs s p d xs old ys from to same m rest ∙ sym (cond-false (short hs xs old) old (permuted p hs d xs ++ drop (length hs) old) roomy)
+  pub buffer : (p q : Parity) (d : X) (ys : List X) → Permutes (length table) table → p ≡ q → length ys ≡ length old → Interleaved q table xs ys
+      → ((k : ℕ) (e : X) → length table ≤ k → get_or ys k e ≡ get_or old k e) → ys ≡ buffer_after p hs d xs old
+  buffer p q d ys s e same moved rest =
+      buffer_is (length table) table s q d xs old ys from to same moved rest
+      ∙ sym (cond-false (short table xs old) old (permuted q table d xs ++ drop (length table) old) roomy)
+      ∙ ap₂ (λ r ts. buffer_after r ts d xs old) (sym e) is
 
 pub permuting_holds_lem : (X : Type 0) → PermutingHolds X
 permuting_holds_lem X n hs p d xs s l = record { size = length-permuted n hs s p d xs; placed = placed n hs s p d xs l; undone = undone n hs s p d xs l }
