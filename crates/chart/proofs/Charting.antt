@@ -1,8 +1,8 @@
 -- The chart tells where the words go; marks that were permuted and then told their places are the chart.
-use Rattle.std.proofs.Common.{◌≡◌, ℕ, ◌<◌, ◌≤◌, Bool, true, false, cond, ◌||◌, ltb, List, ◌++◌, length, drop, Some, None, Ok, Option, sym, refl, ap, ◌∙◌, subst, ap₂, inl, inr, arith, length-append, length-drop}
-use Rattle.std.proofs.lemmas.List.FromFn.{length-map-range_with_len, get_or-map-range_with_len}
-use Rattle.std.proofs.lemmas.List.{same_lists, get_or_default, get_or_append_left, get_or-append_right}
-use Rattle.std.proofs.lemmas.Bool.{cases_lt, cond-true, cond-false, le-ltb, ltb-false}
+use Rattle.std.proofs.Common.{◌≡◌, ℕ, ◌<◌, ◌≤◌, Bool, true, false, cond, ◌||◌, ltb, List, ◌++◌, length, take, drop, Some, None, Ok, Option, sym, refl, ap, ◌∙◌, subst, ap₂, arith}
+use Rattle.std.proofs.lemmas.List.FromFn.{fill_by_all, length-map-range_with_len, get_or-map-range_with_len}
+use Rattle.std.proofs.lemmas.List.{drop_at, take_at}
+use Rattle.std.proofs.lemmas.Bool.{cond-true, cond-false, le-ltb}
 use Rattle.settings.specs.declared.mode.Mode.{Mode}
 use Rattle.settings.specs.Mode.{symbol_cells}
 use Rattle.address.specs.Address.{addresses_of}
@@ -56,14 +56,14 @@ unmoved_at : (n k : ℕ) → k < n → mark_at (unmoved n) k ≡ mark k k
 unfolding unmoved
 unmoved_at n k h = get_or-map-range_with_len (λ q. mark q q) 0 n k k (mark 0 0) h (omega arith)
 
--- a buffer that was permuted into and whose marks were then told their places
-landed_is : (m : Mode) (p : Parity) (old moved new : List Mark) → symbol_cells m ≤ length old
+-- a buffer that was permuted into, and whose first marks were then told their places
+landed_is : (m : Mode) (p : Parity) (old moved front : List Mark) (t : ℕ) → t ≡ symbol_cells m
     → moved ≡ permuted p (addresses_of m) (mark 0 0) (unmoved 6048) ++ drop (symbol_cells m) old
-    → length new ≡ length moved
-    → ((k : ℕ) → k < symbol_cells m → mark_at new k ≡ mark (mark_at moved k).before k)
-    → ((k : ℕ) → symbol_cells m ≤ k → mark_at new k ≡ mark_at moved k)
-    → new ≡ chart_of m p ++ drop (symbol_cells m) old
-landed_is m p old moved new room is same front rest =
+    → length front ≡ length (take t moved)
+    → ((k : ℕ) → k < length (take t moved) → mark_at front k ≡ mark (mark_at (take t moved) k).before k)
+    → front ++ drop t moved ≡ chart_of m p ++ drop (symbol_cells m) old
+unfolding chart_of
+landed_is m p old moved front t size is same told =
     let n = symbol_cells m in
     let hs = addresses_of m in
     let s = addresses_permute m in
@@ -71,21 +71,16 @@ landed_is m p old moved new room is same front rest =
     let ps = permuted p hs (mark 0 0) ws in
     let long : n ≤ length ws = omega (arith, length-unmoved 6048, words_fit m) in
     let lp : length ps ≡ n = length-permuted n hs s p (mark 0 0) ws in
-    let lc : length (chart_of m p) ≡ n = length_chart m p in
-    let lm : length moved ≡ length old = ap length is ∙ simp (length-append, length-drop) (omega arith) in
-    same_lists new (chart_of m p ++ drop n old) (simp (length-append, length-drop) (omega arith)) (λ k e h.
-    get_or_default new k e (mark 0 0) h
-    ∙ elim (cases_lt k n) [
-      | inl i ↦
-          let w : mark_at moved k ≡ mark (word_at p hs k) (word_at p hs k) =
-          ap (λ l. mark_at l k) is ∙ get_or_append_left ps (drop n old) (mark 0 0) k (omega arith)
-          ∙ permuted_at n hs s p (mark 0 0) ws long k (mark 0 0) i ∙ unmoved_at 6048 (word_at p hs k) (omega (arith, words_fit m, word_lt n hs s p k i)) in
-          front k i ∙ ap (λ a. mark a.before k) w ∙ sym (chart_at m p k i) ∙ sym (get_or_append_left (chart_of m p) (drop n old) (mark 0 0) k (omega arith))
-      | inr i ↦
-          rest k i ∙ ap (λ l. mark_at l k) is ∙ get_or-append_right ps (drop n old) n k (mark 0 0) lp i
-          ∙ sym (get_or-append_right (chart_of m p) (drop n old) n k (mark 0 0) lc i)
-    ]
-    ∙ get_or_default (chart_of m p ++ drop n old) k (mark 0 0) e (simp (length-append, length-drop) (omega arith)))
+    let first : take t moved ≡ ps = ap₂ take size is ∙ take_at ps (drop n old) n lp in
+    let last : drop t moved ≡ drop n old = ap₂ drop size is ∙ drop_at ps (drop n old) n lp in
+    let lf : length (take t moved) ≡ n = ap length first ∙ lp in
+    ap₂ ◌++◌
+    (fill_by_all (λ place. mark (word_at p hs place) place) front n (mark 0 0) (same ∙ lf) (λ k i.
+    told k (omega arith)
+    ∙ ap (λ a. mark a.before k)
+    (ap (λ l. mark_at l k) first ∙ permuted_at n hs s p (mark 0 0) ws long k (mark 0 0) i
+    ∙ unmoved_at 6048 (word_at p hs k) (omega (arith, words_fit m, word_lt n hs s p k i)))))
+    last
 
 said_no : (b : Bool) → ◌≡◌ {A = Option ℕ} None (cond b (Some 16) None) → b ≡ false
 said_no true e = absurd (let z : ◌≡◌ {A = ℕ} 0 1 = cc in omega arith)
@@ -109,9 +104,6 @@ module _ (m b : Mode) (mode : b ≡ m) (p : Parity) (ws old moved : List Mark) (
   refusal_is : refusal_of (addresses_of b) ws old ≡ checked (Ok m) (Ok p) (length old)
   refusal_is = ap (λ t. cond t (Some 16) None) short_is
 
-  pub answered : (o : Option ℕ) → o ≡ refusal_of (addresses_of b) ws old → o ≡ checked (Ok m) (Ok p) (length old)
-  answered o e = e ∙ refusal_is
-
   pub refused : (x : ℕ) → Some x ≡ refusal_of (addresses_of b) ws old → moved ≡ buffer_after (Ok m) (Ok p) old
   refused x e =
       let t : ltb (length old) (symbol_cells m) ≡ true = said_yes (ltb (length old) (symbol_cells m)) x (e ∙ refusal_is) in
@@ -122,18 +114,14 @@ module _ (m b : Mode) (mode : b ≡ m) (p : Parity) (ws old moved : List Mark) (
     long : ltb (length old) (symbol_cells m) ≡ false
     long = said_no (ltb (length old) (symbol_cells m)) (e ∙ refusal_is)
 
-    pub room : symbol_cells m ≤ length old
-    room = ltb-false (length old) (symbol_cells m) long
-
     permuted_is : moved ≡ permuted p (addresses_of m) (mark 0 0) (unmoved 6048) ++ drop (symbol_cells m) old
     permuted_is =
         after ∙ cond-false (short (addresses_of b) ws old) old (permuted p (addresses_of b) (mark 0 0) ws ++ drop (length (addresses_of b)) old) (short_is ∙ long)
         ∙ ap₂ ◌++◌ (ap₂ (λ a us. permuted p (addresses_of a) (mark 0 0) us) mode whole) (ap (λ (n : ℕ). drop n old) size)
 
-    pub accepted : (new : List Mark) → length new ≡ length moved
-        → ((k : ℕ) → k < symbol_cells m → mark_at new k ≡ mark (mark_at moved k).before k)
-        → ((k : ℕ) → symbol_cells m ≤ k → mark_at new k ≡ mark_at moved k)
-        → new ≡ buffer_after (Ok m) (Ok p) old
-    accepted new same front rest =
-        landed_is m p old moved new room permuted_is same front rest
+    pub accepted : (front : List Mark) (t : ℕ) → t ≡ length (addresses_of b) → length front ≡ length (take t moved)
+        → ((k : ℕ) → k < length (take t moved) → mark_at front k ≡ mark (mark_at (take t moved) k).before k)
+        → front ++ drop t moved ≡ buffer_after (Ok m) (Ok p) old
+    accepted front t whole same told =
+        landed_is m p old moved front t (whole ∙ size) permuted_is same told
         ∙ sym (cond-false (ltb (length old) (symbol_cells m)) old (chart_of m p ++ drop (symbol_cells m) old) long)

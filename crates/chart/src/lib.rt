@@ -13,6 +13,7 @@ use address::Addresses;
 use permute::{Parity, permute};
 use refusal::Refusal;
 use settings::Mode;
+use std::array;
 
 pub mod laws;
 pub mod mark;
@@ -25,28 +26,19 @@ pub use mark::Mark;
 fn in_place() -> [Mark; 6048]
     ensures { result ≡ unmoved 6048 }
 {
-    let mut marks = [Mark {
-        before: 0,
-        after: 0,
-    }; 6048];
-    for q in 0..6048u16 {
-        marks[q as usize] = Mark {
-            before: q,
-            after: q,
-        };
-    }
-    marks
+    array::from_fn(|q| Mark {
+        before: q as u16,
+        after: q as u16,
+    })
 }
 
-// Writes into each of the first n marks where it stands.
-fn land(marks: &mut [Mark], n: usize)
-    requires room { n ≤ length marks.old }
-    requires few { n ≤ 6048 }
-    ensures front { (k : ℕ) → k < n → mark_at marks.new k ≡ mark (mark_at marks.old k).before k }
-    ensures rest { (k : ℕ) → n ≤ k → mark_at marks.new k ≡ mark_at marks.old k }
+// Writes into each mark where it stands.
+fn land(marks: &mut [Mark])
+    requires { length marks.old ≤ 6048 }
+    ensures { (k : ℕ) → k < length marks.old → mark_at marks.new k ≡ mark (mark_at marks.old k).before k }
 {
-    for place in 0..n {
-        marks[place].after = place as u16;
+    for (place, mark) in marks.iter_mut().enumerate() {
+        mark.after = place as u16;
     }
 }
 
@@ -57,15 +49,16 @@ fn write(mode: Mode, parity: Parity, marks: &mut [Mark]) -> Result<(), Refusal>
 {
     let addresses = Addresses::new(mode);
     permute(&addresses, parity, &in_place(), marks)?;
-    land(marks, addresses.list().len());
+    land(&mut marks[..addresses.list().len()]);
     Ok(())
 }
 
+// Codes and not values: the call is known outside by its numbers.
 pub fn chart(mode: u8, parity: u8, marks: &mut [Mark]) -> Result<(), Refusal>
     ensures answer { refused_by result ≡ checked (mode_read mode) (parity_read parity) (length marks.old) }
     ensures buffer { marks.new ≡ buffer_after (mode_read mode) (parity_read parity) marks.old }
 {
     let mode = Mode::read(mode)?;
-    let parity = Parity::read(parity)?;
+    let parity = Parity::try_from(parity)?;
     write(mode, parity, marks)
 }

@@ -1,5 +1,6 @@
 // Rows of charts, and each refusal in its order.
 use super::{Mark, chart};
+use refusal::Refusal;
 
 const BLANK: Mark = Mark {
     before: 65535,
@@ -32,35 +33,26 @@ const ROWS: [(u8, u8, usize, u16, u16); 20] = [
 ];
 
 // What stands at a place after a call on a blank buffer; a place past it reads blank.
-fn at(mode: u8, parity: u8, place: usize) -> (u16, u16) {
+fn at(mode: u8, parity: u8, place: usize) -> Mark {
     let mut marks = [BLANK; 6048];
     let _ = chart(mode, parity, &mut marks);
-    match marks.get(place) {
-        Some(mark) => (mark.before, mark.after),
-        None => (65535, 65535),
-    }
-}
-
-fn answer(mode: u8, parity: u8, marks: &mut [Mark]) -> u8 {
-    match chart(mode, parity, marks) {
-        Ok(()) => 0,
-        Err(refusal) => refusal.number(),
-    }
+    marks.get(place).copied().unwrap_or(BLANK)
 }
 
 #[test]
 fn rows(rt: HostRuntime) {
     for (mode, parity, place, before, after) in ROWS {
-        assert_eq!(rt; at(mode, parity, place), (before, after));
+        let mark = Mark { before, after };
+        assert_eq!(rt; at(mode, parity, place), mark);
     }
 }
 
 #[test]
 fn refusals(rt: HostRuntime) {
     let mut marks = [BLANK; 1511];
-    assert_eq!(rt; answer(2, 2, &mut marks), 11);
-    assert_eq!(rt; answer(1, 2, &mut marks), 17);
-    assert_eq!(rt; answer(1, 1, &mut marks), 16);
-    assert_eq!(rt; answer(0, 0, &mut marks), 16);
-    assert_eq!(rt; (marks[0].before, marks[0].after), (65535, 65535));
+    assert_eq!(rt; chart(2, 2, &mut marks), Err(Refusal::UnknownMode));
+    assert_eq!(rt; chart(1, 2, &mut marks), Err(Refusal::FrameOrParity));
+    assert_eq!(rt; chart(1, 1, &mut marks), Err(Refusal::BufferShort));
+    assert_eq!(rt; chart(0, 0, &mut marks), Err(Refusal::BufferShort));
+    assert_eq!(rt; marks[0], BLANK);
 }
