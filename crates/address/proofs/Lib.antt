@@ -1,6 +1,4 @@
 pub mod Address
 pub mod Bitset
-pub mod Filling
-pub mod Parity
+pub mod Giving
 pub mod Permutation
-pub mod Wiring

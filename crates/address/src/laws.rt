@@ -7,16 +7,12 @@ ghost use Rattle.address.specs.Vectors.{Published, Recomputed};
 use settings::Mode;
 
 // H has each number below N once, and nothing else.
-pub fn permutes(mode: Mode) -> u8
+pub fn permutes(mode: Mode)
     ensures { Permutes (symbol_cells mode) (addresses_of mode) }
-{
-    0
-}
+{}
 
 // H begins as it is published, and the whole of it is what another program gives.
-pub fn published() -> u8
+pub fn published()
     ensures begins { Published }
     ensures whole { Recomputed }
-{
-    0
-}
+{}

@@ -6,5 +6,6 @@
 pub mod addresses;
 mod generator;
 pub mod laws;
+mod row;
 
 pub use addresses::Addresses;
