@@ -104,6 +104,9 @@ module _ (m b : Mode) (mode : b ≡ m) (p : Parity) (ws old moved : List Mark) (
   refusal_is : refusal_of (addresses_of b) ws old ≡ checked (Ok m) (Ok p) (length old)
   refusal_is = ap (λ t. cond t (Some 16) None) short_is
 
+  pub answered : (o : Option ℕ) → o ≡ refusal_of (addresses_of b) ws old → o ≡ checked (Ok m) (Ok p) (length old)
+  answered o e = e ∙ refusal_is
+
   pub refused : (x : ℕ) → Some x ≡ refusal_of (addresses_of b) ws old → moved ≡ buffer_after (Ok m) (Ok p) old
   refused x e =
       let t : ltb (length old) (symbol_cells m) ≡ true = said_yes (ltb (length old) (symbol_cells m)) x (e ∙ refusal_is) in
