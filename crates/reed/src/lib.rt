@@ -6,7 +6,6 @@ ghost use Rattle.reed.specs.Code.{CodeHolds};
 
 pub mod packet;
 pub mod parity;
-mod register;
 mod rows;
 #[cfg(test)]
 mod tests;

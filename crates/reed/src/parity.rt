@@ -2,10 +2,9 @@
 // Input: the message's bytes, first one highest. Output: sixteen bytes, first one highest.
 ghost use Rattle.std.specs.Prelude.{◌≡◌, [], ◌∷◌, ◌++◌, drop, slice_index};
 ghost use Rattle.reed.specs.Code.{remainder, stepped};
-ghost use Rattle.reed.specs.Registers.{sixteen};
 
-use crate::register::{bytes, first, moved_up, sum};
 use crate::rows::row;
+use std::marker::Model;
 
 #[derive(Clone, Copy)]
 pub struct Parity {
@@ -13,17 +12,35 @@ pub struct Parity {
     register: u128,
 }
 
+impl Model for Parity {
+    ghost use Rattle.std.specs.Prelude.{ℕ, ◌^◌, ◌<◌, List};
+    ghost use Rattle.std.specs.Coded.{coded_list, coded_ℕ};
+    ghost use Rattle.reed.specs.Registers.{sixteen, register_of, register_of_sixteen};
+
+    ghost Value = { List ℕ };
+
+    ghost coded = { coded_list coded_ℕ };
+
+    ghost view = { λ p. sixteen p.register };
+
+    ghost invariant = { λ p. p.register < 2 ^ 128 };
+
+    ghost inverse = { λ bytes. record { register = register_of bytes } };
+
+    ghost inverse_ok = { λ p h i. record { register = register_of_sixteen p.register h i } };
+}
+
 impl Parity {
     // No byte has come.
     pub fn new() -> Parity
-        ensures { sixteen result.register ≡ remainder [] }
+        ensures { result ≡ remainder [] }
     {
         Parity { register: 0 }
     }
 
     // All bytes of a message have come.
     pub fn of(message: &[u8]) -> Parity
-        ensures { sixteen result.register ≡ remainder message.now }
+        ensures { result ≡ remainder message.now }
     {
         let mut parity = Parity::new();
         for byte in message {
@@ -32,27 +49,33 @@ impl Parity {
         parity
     }
 
+    fn first(&self) -> u8
+        ensures { result ≡ slice_index self.now 0 }
+    {
+        (self.register >> 120) as u8
+    }
+
     // One more byte of the message.
     pub fn push(&mut self, byte: u8)
-        ensures { sixteen self.new.register ≡ stepped (sixteen self.old.register) byte }
+        ensures { self.new ≡ stepped self.old byte }
     {
-        let factor = byte ^ first(self.register);
-        self.register = sum(moved_up(self.register), row(factor));
+        let factor = byte ^ self.first();
+        self.register = (self.register << 8) ^ row(factor);
     }
 
     // The first of the sixteen; the others move up by one place, and 0 follows.
     pub fn shift(&mut self) -> u8
-        ensures first { result ≡ slice_index (sixteen self.old.register) 0 }
-        ensures rest { sixteen self.new.register ≡ drop 1 (sixteen self.old.register) ++ 0 ∷ [] }
+        ensures first { result ≡ slice_index self.old 0 }
+        ensures rest { self.new ≡ drop 1 self.old ++ 0 ∷ [] }
     {
-        let byte = first(self.register);
-        self.register = moved_up(self.register);
+        let byte = self.first();
+        self.register <<= 8;
         byte
     }
 
     pub fn bytes(&self) -> [u8; 16]
-        ensures { result ≡ sixteen self.now.register }
+        ensures { result ≡ self.now }
     {
-        bytes(self.register)
+        self.register.to_be_bytes()
     }
 }
