@@ -21,8 +21,10 @@ module _ (xs : List ℕ) where
   protected_codeword l = (length-append xs (remainder xs) ∙ omega (arith, length-remainder xs), vanishing xs)
 
 -- two parts written one after the other
-pub put_both : (xs ys old : List ℕ) → length xs ≡ 188 → put_mid 188 (length (xs ++ drop 188 old) - 188) (xs ++ drop 188 old) ys ≡ xs ++ ys
-put_both xs ys old l =
+pub put_both : (xs ys old front back : List ℕ) → length xs ≡ 188 → front ≡ xs → back ≡ ys
+    → put_mid 188 (length (front ++ drop 188 old) - 188) (front ++ drop 188 old) back ≡ xs ++ ys
+put_both xs ys old front back l f b =
     let all : List ℕ = xs ++ drop 188 old in
     let none : drop (length all - 188) (drop 188 all) ≡ [] = drop_all (length all - 188) (drop 188 all) (omega (arith, length-drop 188 all)) in
-    ap₂ (λ (front back : List ℕ). front ++ (ys ++ back)) (take_at xs (drop 188 old) 188 l) none ∙ ap (λ zs. xs ++ zs) (append-nil ys)
+    ap₂ (λ (zs ws : List ℕ). put_mid 188 (length (zs ++ drop 188 old) - 188) (zs ++ drop 188 old) ws) f b
+    ∙ ap₂ (λ (zs ws : List ℕ). zs ++ (ys ++ ws)) (take_at xs (drop 188 old) 188 l) none ∙ ap (λ zs. xs ++ zs) (append-nil ys)
