@@ -1,9 +1,17 @@
 -- The sixteen bytes of a number of 128 bits under exclusive or and a shift by one byte.
-use Rattle.std.proofs.Common.{◌≡◌, ℕ, zero, suc, ◌+◌, ◌-◌, ◌*◌, ◌/◌, ◌%◌, ◌^◌, ◌<◌, ◌≤◌, [], ◌∷◌, ◌++◌, get_or, drop, sym, refl, ap, ◌∙◌, ap₂, arith, shr-shr}
+use Rattle.std.proofs.Common.{◌≡◌, ℕ, zero, suc, ◌+◌, ◌-◌, ◌*◌, ◌/◌, ◌%◌, ◌^◌, ◌<◌, ◌≤◌, [], ◌∷◌, ◌++◌, length, get_or, drop, sym, refl, ap, ◌∙◌, ap₂, arith, shr-shr}
 use lib.Bits.{bit_xor, xor_shr, xor_mod}
 use lib.Pow.{field, mod-mod-pow, shl-shr, shr_mod}
 use Rattle.reed.specs.Field.{sums}
 use Rattle.reed.specs.Registers.{bytes_of, sixteen}
+
+length_bytes : (n x : ℕ) → length (bytes_of n x) ≡ n
+unfolding bytes_of
+length_bytes zero x = refl
+length_bytes (suc n) x = ap suc (length_bytes n x)
+
+pub length-sixteen : (x : ℕ) → length (sixteen x) ≡ 16
+length-sixteen x = length_bytes 16 x
 
 pub bytes_xor : (n x y : ℕ) → bytes_of n (bit_xor x y) ≡ sums (bytes_of n x) (bytes_of n y)
 unfolding bytes_of

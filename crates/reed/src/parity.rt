@@ -1,6 +1,6 @@
 // The parity of a message that comes byte by byte (EN 300 744, clause 4.3.2): the remainder of message(x) x^16 by g(x) so far.
 // Input: the message's bytes, first one highest. Output: sixteen bytes, first one highest.
-ghost use Rattle.std.specs.Prelude.{◌≡◌, [], ◌∷◌, ◌++◌, drop, slice_index};
+ghost use Rattle.std.specs.Prelude.{◌≡◌, [], ◌∷◌, ◌++◌, length, drop, slice_index};
 ghost use Rattle.reed.specs.Code.{remainder, stepped};
 
 use crate::rows::row;
@@ -57,7 +57,8 @@ impl Parity {
 
     // One more byte of the message.
     pub fn push(&mut self, byte: u8)
-        ensures { self.new ≡ stepped self.old byte }
+        ensures parity { self.new ≡ stepped self.old byte }
+        ensures sixteen { length self.new ≡ 16 }
     {
         let factor = byte ^ self.first();
         self.register = (self.register << 8) ^ row(factor);

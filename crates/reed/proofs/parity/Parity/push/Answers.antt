@@ -2,7 +2,7 @@ use Rattle.std.proofs.Common.{◌*◌, ◌%◌, ◌^◌, [], ◌∷◌, ◌++◌
 use lib.Bits.{bit_xor, xor_lt}
 use Rattle.reed.specs.Code.{taps}
 use Rattle.reed.specs.Field.{scaled, sums}
-use Rattle.reed.proofs.Registering.{bytes_xor, sixteen_moved}
+use Rattle.reed.proofs.Registering.{bytes_xor, length-sixteen, sixteen_moved}
 use Rattle.reed.proofs.parity.Parity.push.Goals as goal
 
 pub invariant_of-self : goal.invariant_of-self
@@ -10,7 +10,10 @@ invariant_of-self c = xor_lt 128 ((c.self.inside.register * 256) % 2 ^ 128) c.ro
 
 pub returns : goal.returns
 returns c =
-    bytes_xor 16 _ _
-    ∙ ap₂ sums
-    (sixteen_moved c.self.inside.register ∙ ap (λ bytes. drop 1 bytes ++ 0 ∷ []) c.self.view_is)
-    (c.row.ensures ∙ ap (λ first. scaled (bit_xor c.args.byte first) taps) c.first.ensures)
+    record {
+      parity = bytes_xor 16 _ _
+          ∙ ap₂ sums
+          (sixteen_moved c.self.inside.register ∙ ap (λ bytes. drop 1 bytes ++ 0 ∷ []) c.self.view_is)
+          (c.row.ensures ∙ ap (λ first. scaled (bit_xor c.args.byte first) taps) c.first.ensures);
+      sixteen = length-sixteen _;
+    }
