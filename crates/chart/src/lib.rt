@@ -58,7 +58,7 @@ pub fn chart(mode: u8, parity: u8, marks: &mut [Mark]) -> Result<(), Refusal>
     ensures answer { refused_by result ≡ checked (mode_read mode) (parity_read parity) (length marks.old) }
     ensures buffer { marks.new ≡ buffer_after (mode_read mode) (parity_read parity) marks.old }
 {
-    let mode = Mode::read(mode)?;
+    let mode = Mode::try_from(mode)?;
     let parity = Parity::try_from(parity)?;
     write(mode, parity, marks)
 }
