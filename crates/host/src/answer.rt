@@ -1,4 +1,4 @@
-// How a call answers a C program.
+// How a call answers a C program: by a number, since C has no `Result`.
 ghost use Rattle.std.specs.Prelude.{◌≡◌};
 ghost use Rattle.refusal.specs.Numbers.{refused_by};
 ghost use Rattle.host.specs.Answer.{answer_of};
