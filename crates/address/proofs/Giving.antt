@@ -1,5 +1,5 @@
 -- What the generator gives: its word i gives one address more, or none.
-use Rattle.std.proofs.Common.{◌≡◌, ℕ, suc, ◌+◌, ◌-◌, ◌*◌, ◌%◌, ◌^◌, ◌<◌, ◌≤◌, ltb, List, [], ◌∷◌, ◌++◌, length, sym, refl, ap, ◌∙◌, ap₂, arith, length-append}
+use Rattle.std.proofs.Common.{◌≡◌, ℕ, suc, ◌+◌, ◌-◌, ◌*◌, ◌%◌, ◌^◌, ◌<◌, ◌≤◌, ltb, List, [], ◌∷◌, ◌++◌, length, take, set, sym, refl, ap, ◌∙◌, ap₂, append_assoc, arith, length-append, length-take}
 use native.Mathlib.Nat.{sub-zero}
 use Rattle.settings.specs.declared.mode.Mode.{Mode}
 use Rattle.settings.specs.declared.mode.Mode.TheVariants.{TwoK, EightK}
@@ -8,6 +8,7 @@ use Rattle.address.specs.Address.{row_of, address, following, kept, addresses_fr
 use Rattle.address.specs.Generator.{addresses_left}
 use Rattle.address.proofs.Address.{addresses_permute, words_fit}
 use Rattle.std.proofs.lemmas.Bool.{lt-ltb, le-ltb}
+use Rattle.std.proofs.lemmas.List.{append-nil, take_more_set}
 
 module _ (m : Mode) where
   pub started : addresses_left m 0 0 ≡ addresses_of m
@@ -43,7 +44,19 @@ turns m w e = ap (λ (x : ℕ). (2 * 2 ^ x) % 65536) e ∙ at m
     at TwoK = refl
     at EightK = refl
 
--- there is room for one more address
-pub room : (m : Mode) (xs left rest : List ℕ) (x : ℕ) → xs ++ left ≡ addresses_of m → left ≡ x ∷ rest → length xs < 6048
-room m xs left rest x e next =
-    omega (arith, words_fit m, (addresses_permute m).size, ap length next, simp length-append at (ap length e))
+-- the table is written from the front: there is room for the next address, which has its place, and in the end the table is H
+module _ (m : Mode) (xs left : List ℕ) (q : ℕ) (whole : length xs ≡ 6048) (so_far : take q xs ++ left ≡ addresses_of m) where
+  pub room : (x : ℕ) (rest : List ℕ) → left ≡ x ∷ rest → q < 6048
+  room x rest e =
+      omega (arith, whole, words_fit m, (addresses_permute m).size, ap length e, simp (length-append, length-take) at (ap length so_far))
+
+  pub put : (x : ℕ) (rest : List ℕ) → left ≡ x ∷ rest → take (q + 1) (set xs q x) ++ rest ≡ addresses_of m
+  put x rest e =
+      ap (λ ys. ys ++ rest) (take_more_set xs q x (omega (arith, whole, room x rest e))) ∙ append_assoc (take q xs) (x ∷ []) rest
+      ∙ ap (λ ys. take q xs ++ ys) (sym e) ∙ so_far
+
+  pub done : q ≤ 6048 → left ≡ [] → take (symbol_cells m) xs ≡ addresses_of m
+  done room e =
+      let f : take q xs ≡ addresses_of m = sym (append-nil (take q xs)) ∙ ap (λ ys. take q xs ++ ys) (sym e) ∙ so_far in
+      let last : symbol_cells m ≡ q = omega (arith, whole, (addresses_permute m).size, length-take q xs, ap length f) in
+      ap (λ (t : ℕ). take t xs) last ∙ f

@@ -1,26 +1,26 @@
 // H of one mode, worked out once and read at every symbol.
-ghost use Rattle.std.specs.Prelude.{◌≡◌};
+ghost use Rattle.std.specs.Prelude.{◌≡◌, take};
 ghost use Rattle.address.specs.Address.{addresses_of};
+ghost use Rattle.settings.specs.Mode.{symbol_cells};
 
 use crate::generator::Generator;
-use arrayvec::ArrayVec;
 use settings::Mode;
 
 #[derive(Drop)]
 pub struct Addresses {
     mode: Mode,
-    // With room for the longest H.
-    table: ArrayVec<u16, 6048>,
-    ghost whole: { table.items ≡ addresses_of mode },
+    // The first N places hold H. No vector: a length that is read at every word is slower than N by the mode.
+    table: [u16; 6048],
+    ghost filled: { take (symbol_cells mode) table ≡ addresses_of mode },
 }
 
 impl Addresses {
     pub fn new(mode: Mode) -> Addresses
         ensures { result.mode ≡ mode }
     {
-        let mut table = ArrayVec::new();
-        for at in Generator::new(mode) {
-            table.push(at);
+        let mut table = [0; 6048];
+        for (q, at) in Generator::new(mode).enumerate() {
+            table[q] = at;
         }
         Addresses { mode, table }
     }
@@ -29,6 +29,6 @@ impl Addresses {
     pub fn list(&self) -> &[u16]
         ensures { result.now ≡ addresses_of self.now.mode }
     {
-        &self.table
+        &self.table[..self.mode.symbol_cells() as usize]
     }
 }

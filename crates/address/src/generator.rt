@@ -19,8 +19,7 @@ pub(crate) struct Generator {
 
 impl Generator {
     pub(crate) fn new(mode: Mode) -> Generator
-        ensures mode { result.mode ≡ mode }
-        ensures left { addresses_left mode result.index result.register ≡ addresses_of mode }
+        ensures { addresses_left result.mode result.index result.register ≡ addresses_of mode }
     {
         Generator {
             mode,
