@@ -3,7 +3,7 @@ pub mod Waiting
 pub mod Rule
 pub mod Machine
 pub mod Blocks
-pub mod Known
+pub mod Optional
 pub mod Piled
 pub mod Passing
 pub mod Unknown

@@ -3,7 +3,7 @@ use Rattle.std.specs.Prelude.{ℕ, List, [], ◌∷◌, refl}
 use Rattle.std.proofs.Common.{lit≤, inl, arith}
 use Rattle.stage.specs.Model.{silence}
 use Rattle.stage.specs.Rule.{Rule, Sends, Hears, Back, Under, Numbered}
-use Rattle.stage.specs.Known.{unknown}
+use Rattle.stage.specs.Optional.{unknown}
 use Rattle.stage.specs.Faultless.{no_fault}
 
 pub unknown_sends : Sends unknown.sends

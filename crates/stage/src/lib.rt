@@ -14,7 +14,7 @@ ghost use Rattle.stage.specs.Rule.{Rule, Sends, Hears};
 
 use refusal::Refusal;
 
-pub mod known;
+mod optional;
 
 // What a receiving side found wrong: the number of the stage, counted from the packet side, and the cause.
 #[derive(Clone, Copy, PartialEq, Eq, Debug)]
