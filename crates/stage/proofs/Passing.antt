@@ -108,6 +108,18 @@ module _ (M : Model) where
         → Drains N s₁ s₂ (take (length out₁ - m) (drop m out₁)) rest n → Drains M s s₂ out (put_mid m (length out₁ - m) out₁ rest) (m + n)
     drains_then {n = n} same d = record { gives = gives_then (ap (λ m. m.given) same) d.gives; all_that_fit = λ h. d.all_that_fit (room_left n h) }
 
+-- a pass has drained the side, and asking what waits alters nothing
+pub passed_by : (M : Model) {s s₁ s₂ : Sending} {input out out₁ : List ℕ} (used : ℕ) {made : ℕ} {waits : Bool} → used ≤ length input → Under M.taken (take used input)
+    → Drains M (fed s (take used input)) s₁ out out₁ made → (s₁.waits ≡ [] → fitting M.taken (drop used input) ≡ [])
+    → waits ≡ some s₁.waits → s₂ ≡ s₁ → Passes M s s₂ input out out₁ (record { used = used; made = made; waits = waits })
+passed_by M used h below d up asked left = record {
+  input_has = h;
+  fits = below;
+  drains = record { gives = gives_of M refl (sym left) d.gives; all_that_fit = λ room. ap (λ t. t.waits) left ∙ d.all_that_fit room };
+  used_up = λ e. up (ap (λ t. t.waits) (sym left) ∙ e);
+  waits = asked ∙ ap (λ t. some t.waits) (sym left);
+}
+
 -- units of a list, and then further ones of its rest, which is lent as a part
 pub take_further : (xs : List ℕ) (m n : ℕ) → take (m + n) xs ≡ take m xs ++ take n (take (length xs - m) (drop m xs))
 take_further xs m n = take-add m n xs ∙ ap (λ w. take m xs ++ take n w) (sym (between_to_end xs m (length xs) (omega arith)))

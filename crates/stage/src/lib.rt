@@ -17,6 +17,7 @@ use refusal::Refusal;
 mod optional;
 
 // What a receiving side found wrong: the number of the stage, counted from the packet side, and the cause.
+// The cause is a number, since any stage may tell causes of its own, and no enum here could list them.
 #[derive(Clone, Copy, PartialEq, Eq, Debug)]
 pub struct Fault {
     pub stage: u32,
@@ -24,7 +25,8 @@ pub struct Fault {
 }
 
 // What a pass did: how many units of the input it has used and of the output it has made, and whether something waits still.
-#[derive(Clone, Copy)]
+// Both numbers count whether something waits or not, so `waits` stands for no refusal.
+#[derive(Clone, Copy, Default)]
 pub struct Passed {
     pub used: usize,
     pub made: usize,
@@ -90,15 +92,13 @@ pub trait Stage {
         ensures other { receiving self.new ≡ receiving self.old }
         ensures drains { Drains (model self.old) (sending self.old) (sending self.new) output.old output.new result }
     {
-        let mut made = 0;
-        while made < output.len() {
+        for (made, place) in output.iter_mut().enumerate() {
             let Some(unit) = self.send_take() else {
-                break;
+                return made;
             };
-            output[made] = unit;
-            made += 1;
+            *place = unit;
         }
-        made
+        output.len()
     }
 
     // Hands on units of the input one by one and takes waiting ones into the output, until one finds no room or the input is used up.
@@ -107,17 +107,19 @@ pub trait Stage {
         ensures other { receiving self.new ≡ receiving self.old }
         ensures passes { Passes (model self.old) (sending self.old) (sending self.new) input.now output.old output.new result }
     {
-        let mut used = 0;
-        let mut made = 0;
-        loop {
-            made += self.send_drain(&mut output[made..]);
-            if used >= input.len() || self.send_offer(input[used]).is_err() {
-                break;
+        let mut made = self.send_drain(output);
+        for (used, &unit) in input.iter().enumerate() {
+            if self.send_offer(unit).is_err() {
+                return Passed {
+                    used,
+                    made,
+                    waits: self.send_waits(),
+                };
             }
-            used += 1;
+            made += self.send_drain(&mut output[made..]);
         }
         Passed {
-            used,
+            used: input.len(),
             made,
             waits: self.send_waits(),
         }

@@ -1,4 +1,4 @@
-use Rattle.std.proofs.Common.{◌≡◌, ◌-◌, length}
+use Rattle.std.proofs.Common.{◌≡◌}
 use Rattle.stage.specs.Passing.{Gives}
 use Rattle.stage.proofs.Stage.send_drain.Given as goal
 
@@ -8,6 +8,3 @@ invariant-loop-made g l =
     (s.model l.self ≡ s.model l.initial.self)
     × (s.receiving l.self ≡ s.receiving l.initial.self)
     × Gives (s.model l.initial.self) (s.sending l.initial.self) (s.sending l.self) l.initial.output l.output l.made
-
-abbrev pub decreases-loop-made : goal.decreases-loop-made
-decreases-loop-made g l = length l.initial.output - l.made
