@@ -9,7 +9,7 @@
 ghost use Rattle.std.specs.Prelude.{◌≡◌, false, []};
 ghost use Rattle.stage.specs.Model.{new_sending, new_receiving};
 ghost use Rattle.stage.specs.Piled.{fits, piled, piled_sending, piled_receiving};
-ghost use Rattle.pile.specs.Queued.{units_of, queueing};
+ghost use Rattle.pile.specs.Queued.{queueing};
 
 use queue::Queue;
 use stage::Stage;
@@ -32,8 +32,7 @@ pub struct Pile<U, L> {
 impl<U: Stage, L: Stage> Pile<U, L> {
     // A pile of new parts is new.
     pub fn new(upper: U, lower: L) -> Pile<U, L>
-        ensures holds { result ≡ record { upper = upper; lower = lower; down = result.down; misfit = false } }
-        ensures empty { units_of result.down ≡ [] }
+        ensures holds { result ≡ record { upper = upper; lower = lower; down = []; misfit = false } }
         ensures sends { U.Stage.sending upper ≡ new_sending (U.Stage.model upper) → L.Stage.sending lower ≡ new_sending (L.Stage.model lower) → piled_sending (U.Stage.model upper) (L.Stage.model lower) (U.Stage.sending upper) (L.Stage.sending lower) ≡ new_sending (piled (U.Stage.model upper) (L.Stage.model lower)) }
         ensures queued { U.Stage.sending upper ≡ new_sending (U.Stage.model upper) → L.Stage.sending lower ≡ new_sending (L.Stage.model lower) → piled_sending (U.Stage.model upper) (L.Stage.model lower) (queueing (L.Stage.model lower) result.down (U.Stage.sending upper)) (L.Stage.sending lower) ≡ new_sending (piled (U.Stage.model upper) (L.Stage.model lower)) }
         ensures hears { U.Stage.receiving upper ≡ new_receiving (U.Stage.model upper) → L.Stage.receiving lower ≡ new_receiving (L.Stage.model lower) → piled_receiving false (U.Stage.model upper) (L.Stage.model lower) (U.Stage.receiving upper) (L.Stage.receiving lower) ≡ new_receiving (piled (U.Stage.model upper) (L.Stage.model lower)) }

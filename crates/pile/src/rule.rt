@@ -7,9 +7,7 @@ ghost use Rattle.stage.proofs.PilingDown.{piled_sends};
 ghost use Rattle.stage.proofs.PilingUp.{piled_hears};
 
 use super::Pile;
-use super::down::pass_down;
 use super::queue::Queue;
-use super::settle::{settle_down, settle_up};
 use refusal::Refusal;
 use stage::{Fault, Passed, Stage};
 
@@ -19,7 +17,7 @@ fn beyond(fault: Fault, size: u32) -> Fault
 {
     Fault {
         stage: fault.stage.saturating_add(size),
-        cause: fault.cause,
+        ..fault
     }
 }
 
@@ -69,11 +67,11 @@ impl<U: Stage, L: Stage> Stage for Pile<U, L> {
     }
 
     fn send_waits(&mut self) -> bool {
-        self.parts_fit() && settle_down(&mut self.upper, &mut self.lower, &mut self.down)
+        self.settle_down()
     }
 
     fn receive_waits(&mut self) -> bool {
-        self.parts_fit() && settle_up(&mut self.upper, &mut self.lower, &mut self.misfit)
+        self.settle_up()
     }
 
     fn renew(&mut self) {
@@ -84,20 +82,19 @@ impl<U: Stage, L: Stage> Stage for Pile<U, L> {
     }
 
     fn send_offer(&mut self, unit: u8) -> Result<(), Refusal> {
-        if !self.parts_fit() || u16::from(unit) >= self.upper.taken() {
+        if u16::from(unit) >= self.taken() {
             return Err(Refusal::UnitTooLarge);
         }
-        if settle_down(&mut self.upper, &mut self.lower, &mut self.down) {
+        if self.settle_down() {
             return Err(Refusal::SomethingWaits);
         }
         self.upper.send_offer(unit)
     }
 
     fn send_take(&mut self) -> Option<u8> {
-        if !self.parts_fit() {
+        if !self.settle_down() {
             return None;
         }
-        settle_down(&mut self.upper, &mut self.lower, &mut self.down);
         self.lower.send_take()
     }
 
@@ -107,33 +104,23 @@ impl<U: Stage, L: Stage> Stage for Pile<U, L> {
 
     fn send_pass(&mut self, input: &[u8], output: &mut [u8]) -> Passed {
         if !self.parts_fit() {
-            return Passed {
-                used: 0,
-                made: 0,
-                waits: false,
-            };
+            return Passed::default();
         }
-        pass_down(
-            &mut self.upper,
-            &mut self.lower,
-            &mut self.down,
-            input,
-            output,
-        )
+        self.pass_down(input, output)
     }
 
     fn receive_offer(&mut self, unit: u8) -> Result<(), Refusal> {
-        if !self.parts_fit() || u16::from(unit) >= self.lower.given() {
+        if u16::from(unit) >= self.given() {
             return Err(Refusal::UnitTooLarge);
         }
-        if settle_up(&mut self.upper, &mut self.lower, &mut self.misfit) {
+        if self.settle_up() {
             return Err(Refusal::SomethingWaits);
         }
         self.lower.receive_offer(unit)
     }
 
     fn receive_take(&mut self) -> Result<Option<u8>, Fault> {
-        if !self.parts_fit() || !settle_up(&mut self.upper, &mut self.lower, &mut self.misfit) {
+        if !self.settle_up() {
             return Ok(None);
         }
         if let Some(unit) = self.upper.receive_take()? {
@@ -145,9 +132,9 @@ impl<U: Stage, L: Stage> Stage for Pile<U, L> {
                 cause: 1,
             });
         }
-        match self.lower.receive_take() {
-            Ok(none) => Ok(none),
-            Err(fault) => Err(beyond(fault, self.upper.size())),
-        }
+        let size = self.upper.size();
+        self.lower
+            .receive_take()
+            .map_err(|fault| beyond(fault, size))
     }
 }
