@@ -1,9 +1,9 @@
 -- The units of a queue, as its places move on.
-use Rattle.std.proofs.Common.{◌≡◌, ℕ, ◌+◌, ◌-◌, ◌<◌, Bool, true, false, not, List, [], ◌∷◌, ◌++◌, take, drop, sym, refl, ap, ◌∙◌, arith}
+use Rattle.std.proofs.Common.{cond, ◌&&◌, ◌≡◌, ℕ, ◌+◌, ◌-◌, ◌<◌, Bool, true, false, not, List, [], ◌∷◌, ◌++◌, take, drop, sym, refl, ap, ◌∙◌, arith}
 use Rattle.std.proofs.lemmas.List.{drop-drop}
 use Rattle.std.proofs.lemmas.Slice.{between_is}
 use Rattle.stage.specs.Model.{Model, Sending, some}
-use Rattle.stage.specs.Piled.{fits, if_fits, joined_sending, piled_sending}
+use Rattle.stage.specs.Piled.{fits, joined_sending, piled_sending}
 use Rattle.stage.proofs.PilingDown.{sending_fits}
 use Rattle.pile.specs.Queued.{queueing}
 
@@ -20,17 +20,14 @@ pub both_none : (ws vs : List ℕ) → ws ++ vs ≡ [] → (ws ≡ []) × (vs �
 both_none [] vs e = (refl, e)
 both_none (w ∷ ws) vs e = let z : ◌≡◌ {A = ℕ} 0 1 = cc in absurd (omega arith)
 
--- parts that move something on, or that a unit fits, fit
-pub fits_since : (b some : Bool) → if_fits b some false ≡ true → b ≡ true
-fits_since true some e = refl
-fits_since false some e = e
-
-pub below_since : (b : Bool) (n v : ℕ) → v < if_fits b n 0 → (b ≡ true) × (v < n)
+-- parts fit where the pile takes a unit
+pub below_since : (b : Bool) (n v : ℕ) → v < cond b n 0 → (b ≡ true) × (v < n)
 below_since true n v h = (refl, h)
 below_since false n v h = absurd (omega arith)
 
-pub quiet_since : {b : Bool} (some : Bool) → b ≡ true → if_fits b some false ≡ false → some ≡ false
-quiet_since some fit e = sym (ap (λ b. if_fits b some false) fit) ∙ e
+-- in parts that fit nothing waits where nothing waits in the pile
+pub quiet_since : {b : Bool} (some : Bool) → b ≡ true → (b && some) ≡ false → some ≡ false
+quiet_since some fit e = sym (ap (λ b. b && some) fit) ∙ e
 
 -- a pile of parts that fit, whose models have not changed
 pub down_queued : (q : List ℕ) {m m' k k' : Model} (u l : Sending) → m' ≡ m → k' ≡ k → fits m k ≡ true

@@ -1,5 +1,5 @@
 -- The turns of a pass down a pile: the lower part is handed what is queued, and then the upper part gives more.
-use Rattle.std.proofs.Common.{◌≡◌, ℕ, ◌+◌, ◌-◌, ◌<◌, ◌≤◌, true, false, not, List, [], ◌∷◌, length, take, drop, sym, refl, ap, ◌∙◌, subst, arith, length-drop}
+use Rattle.std.proofs.Common.{cond, ◌≡◌, ℕ, ◌+◌, ◌-◌, ◌<◌, ◌≤◌, true, false, not, List, [], ◌∷◌, length, take, drop, sym, refl, ap, ◌∙◌, subst, arith, length-drop}
 use borrow.Rule.Slice.PartMut.{put_mid}
 use Rattle.std.proofs.ByRecursion.{All-append}
 use Rattle.std.proofs.lemmas.List.{drop-drop}
@@ -8,7 +8,7 @@ use Rattle.std.proofs.lemmas.Bool.{le-leb}
 use Rattle.stage.specs.declared.Passed.{Passed}
 use Rattle.stage.specs.Model.{Model, Sending, fed, ahead, some}
 use Rattle.stage.specs.Passing.{Gives, Passes}
-use Rattle.stage.specs.Piled.{fits, fitting, if_fits, piled, joined_sending}
+use Rattle.stage.specs.Piled.{fits, fitting, piled, joined_sending}
 use Rattle.stage.specs.Rule.{Sends, Under}
 use Rattle.stage.proofs.Feeding.{fed-fed}
 use Rattle.stage.proofs.Passing.{gives_of, gives_fed, gives_then, room_left, take_further}
@@ -43,10 +43,10 @@ module _ (m k : Model) (fit : m.given ≤ k.taken) where
   fitted = le-leb m.given k.taken fit
 
   pub takes : m.taken ≡ (piled m k).taken
-  takes = sym (ap (λ b. if_fits b m.taken 0) fitted)
+  takes = sym (ap (λ b. cond b m.taken 0) fitted)
 
   pub gives : k.given ≡ (piled m k).given
-  gives = sym (ap (λ b. if_fits b k.given 0) fitted)
+  gives = sym (ap (λ b. cond b k.given 0) fitted)
 
   -- The pile was J₀, and is now the parts u and l with q queued between them. The lower part passes, is then l₁, and leaves q₁.
   module _ (J₀ : Sending) (input : List ℕ) (used : ℕ) {out₀ out : List ℕ} {made : ℕ} (u l : Sending) (sl : Sends l.future) (q : List ℕ)

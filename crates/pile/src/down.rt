@@ -9,7 +9,7 @@ use super::Pile;
 use stage::{Passed, Stage};
 
 impl<U: Stage, L: Stage> Pile<U, L> {
-    // In turn, until a unit waits in the lower part or the upper part has nothing to give.
+    // What is queued is handed down and the queue filled anew, in turn, until a unit waits in the lower part or the upper part has nothing to give.
     pub(crate) fn pass_down(&mut self, input: &[u8], output: &mut [u8]) -> Passed
         requires { (U.Stage.model self.old.upper).given ≤ (L.Stage.model self.old.lower).taken }
         ensures upper_fixed { U.Stage.model self.new.upper ≡ U.Stage.model self.old.upper }

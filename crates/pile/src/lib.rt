@@ -25,14 +25,15 @@ pub struct Pile<U, L> {
     lower: L,
     // What the upper part has given, and the lower part has yet to be handed.
     down: Queue,
-    // A unit was handed up that isn't below the upper part's given.
+    // A unit was handed up that isn't below the upper part's given. The parts alone tell its fault, so no value stands beside the flag.
     misfit: bool,
 }
 
 impl<U: Stage, L: Stage> Pile<U, L> {
     // A pile of new parts is new.
     pub fn new(upper: U, lower: L) -> Pile<U, L>
-        ensures holds { result ≡ record { upper = upper; lower = lower; down = []; misfit = false } }
+        ensures holds { result ≡ record { upper = upper; lower = lower; down = result.down; misfit = false } }
+        ensures empty { result.down ≡ [] }
         ensures sends { U.Stage.sending upper ≡ new_sending (U.Stage.model upper) → L.Stage.sending lower ≡ new_sending (L.Stage.model lower) → piled_sending (U.Stage.model upper) (L.Stage.model lower) (U.Stage.sending upper) (L.Stage.sending lower) ≡ new_sending (piled (U.Stage.model upper) (L.Stage.model lower)) }
         ensures queued { U.Stage.sending upper ≡ new_sending (U.Stage.model upper) → L.Stage.sending lower ≡ new_sending (L.Stage.model lower) → piled_sending (U.Stage.model upper) (L.Stage.model lower) (queueing (L.Stage.model lower) result.down (U.Stage.sending upper)) (L.Stage.sending lower) ≡ new_sending (piled (U.Stage.model upper) (L.Stage.model lower)) }
         ensures hears { U.Stage.receiving upper ≡ new_receiving (U.Stage.model upper) → L.Stage.receiving lower ≡ new_receiving (L.Stage.model lower) → piled_receiving false (U.Stage.model upper) (L.Stage.model lower) (U.Stage.receiving upper) (L.Stage.receiving lower) ≡ new_receiving (piled (U.Stage.model upper) (L.Stage.model lower)) }

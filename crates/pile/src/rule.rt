@@ -11,6 +11,9 @@ use super::queue::Queue;
 use refusal::Refusal;
 use stage::{Fault, Passed, Stage};
 
+// The cause of the fault that a unit handed up makes which isn't below the upper part's given.
+const MISFIT: u8 = 1;
+
 // A lower part's fault, seen from above `size` stages.
 fn beyond(fault: Fault, size: u32) -> Fault
     ensures { Some result ≡ lifted size (Some fault) }
@@ -129,7 +132,7 @@ impl<U: Stage, L: Stage> Stage for Pile<U, L> {
         if self.misfit {
             return Err(Fault {
                 stage: self.upper.size(),
-                cause: 1,
+                cause: MISFIT,
             });
         }
         let size = self.upper.size();

@@ -1,7 +1,7 @@
 // Moving the units that wait in one part of a pile on to the other, where the parts fit. The answer is whether something waits in the pile.
-ghost use Rattle.std.specs.Prelude.{◌≡◌, true, false, []};
+ghost use Rattle.std.specs.Prelude.{◌≡◌, ◌&&◌, true, false, []};
 ghost use Rattle.stage.specs.Model.{silence, some, some_heard};
-ghost use Rattle.stage.specs.Piled.{fits, if_fits, joined_sending, joined_waits, joined_receiving};
+ghost use Rattle.stage.specs.Piled.{fits, joined_sending, joined_waits, joined_receiving};
 ghost use Rattle.pile.specs.Queued.{queueing};
 
 use super::Pile;
@@ -17,7 +17,7 @@ impl<U: Stage, L: Stage> Pile<U, L> {
         ensures misfit { self.new.misfit ≡ self.old.misfit }
         ensures side { joined_sending (queueing (L.Stage.model self.old.lower) self.new.down (U.Stage.sending self.new.upper)) (L.Stage.sending self.new.lower) ≡ joined_sending (queueing (L.Stage.model self.old.lower) self.old.down (U.Stage.sending self.old.upper)) (L.Stage.sending self.old.lower) }
         ensures settled { fits (U.Stage.model self.old.upper) (L.Stage.model self.old.lower) ≡ true → (L.Stage.sending self.new.lower).waits ≡ [] → (queueing (L.Stage.model self.old.lower) self.new.down (U.Stage.sending self.new.upper)).waits ≡ [] }
-        ensures answers { result ≡ if_fits (fits (U.Stage.model self.old.upper) (L.Stage.model self.old.lower)) (some (L.Stage.sending self.new.lower).waits) false }
+        ensures answers { result ≡ (fits (U.Stage.model self.old.upper) (L.Stage.model self.old.lower) && some (L.Stage.sending self.new.lower).waits) }
     {
         self.parts_fit() && self.pass_down(&[], &mut []).waits
     }
@@ -31,7 +31,7 @@ impl<U: Stage, L: Stage> Pile<U, L> {
         ensures down { self.new.down ≡ self.old.down }
         ensures side { joined_receiving self.new.misfit (U.Stage.model self.old.upper) (U.Stage.receiving self.new.upper) (L.Stage.receiving self.new.lower) ≡ joined_receiving self.old.misfit (U.Stage.model self.old.upper) (U.Stage.receiving self.old.upper) (L.Stage.receiving self.old.lower) }
         ensures settled { fits (U.Stage.model self.old.upper) (L.Stage.model self.old.lower) ≡ true → (U.Stage.receiving self.new.upper).waits ≡ silence → self.new.misfit ≡ false → (L.Stage.receiving self.new.lower).waits.units ≡ [] }
-        ensures answers { result ≡ if_fits (fits (U.Stage.model self.old.upper) (L.Stage.model self.old.lower)) (some_heard (joined_waits self.new.misfit (U.Stage.model self.old.upper) (U.Stage.receiving self.new.upper) (L.Stage.receiving self.new.lower))) false }
+        ensures answers { result ≡ (fits (U.Stage.model self.old.upper) (L.Stage.model self.old.lower) && some_heard (joined_waits self.new.misfit (U.Stage.model self.old.upper) (U.Stage.receiving self.new.upper) (L.Stage.receiving self.new.lower))) }
     {
         if !self.parts_fit() {
             return false;

@@ -19,9 +19,6 @@ module _ {A : Type 0} where
   pub begins_take : (xs ys : List A) → Begins xs ys → xs ≡ take (length xs) ys
   begins_take xs ys p = sym (ap (take (length xs)) p.1 ∙ take_at xs p.0 (length xs) refl)
 
-  pub begins_drop : (xs ys : List A) → Begins xs ys → ys ≡ xs ++ drop (length xs) ys
-  begins_drop xs ys p = p.1 ∙ ap (λ (w : List A). xs ++ w) (sym (ap (drop (length xs)) p.1 ∙ drop_at xs p.0 (length xs) refl))
-
   pub take_begins : (n : ℕ) (ys : List A) → Begins (take n ys) ys
   take_begins n ys = (drop n ys, sym (take-append-drop n ys))
 

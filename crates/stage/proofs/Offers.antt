@@ -1,17 +1,8 @@
 -- An offer, by whether the unit is below the limit and whether something waits.
 use Rattle.std.proofs.Common.{◌≡◌, ℕ, ◌<◌, Bool, true, false, ltb, [], Ok, Err, sym, ap, ◌∙◌, ap₂}
 use Rattle.std.proofs.lemmas.Bool.{lt-ltb}
-use Rattle.refusal.specs.declared.Refusal.TheVariants.{UnitTooLarge, SomethingWaits}
+use Rattle.refusal.specs.declared.Refusal.TheVariants.{SomethingWaits}
 use Rattle.stage.specs.Model.{Sending, Receiving, silence, some, some_heard, answer, offered, heard}
-
-pub too_large : (fits busy : Bool) → fits ≡ false → Err UnitTooLarge ≡ answer fits busy
-too_large fits busy p = sym (ap (λ f. answer f busy) p)
-
-pub too_large_sent : (fits busy : Bool) (s : Sending) (u : ℕ) → fits ≡ false → s ≡ offered fits busy s u
-too_large_sent fits busy s u p = sym (ap (λ f. offered f busy s u) p)
-
-pub too_large_heard : (fits busy : Bool) (s : Receiving) (u : ℕ) → fits ≡ false → s ≡ heard fits busy s u
-too_large_heard fits busy s u p = sym (ap (λ f. heard f busy s u) p)
 
 pub waiting : (fits busy : Bool) → fits ≡ true → busy ≡ true → Err SomethingWaits ≡ answer fits busy
 waiting fits busy p q = sym (ap₂ answer p q)

@@ -15,9 +15,6 @@ use Rattle.stage.proofs.Feeding.{fed_none, fed-fed}
 use Rattle.stage.proofs.Waits.{none_waits, first_waits}
 
 -- Units in front of what waits.
-pub ahead_none : (s : Sending) → s ≡ ahead [] s
-ahead_none s = refl
-
 pub ahead-ahead : (us vs : List ℕ) (s : Sending) → ahead us (ahead vs s) ≡ ahead (us ++ vs) s
 ahead-ahead us vs s = λ i. record { waits = sym (append_assoc us vs s.waits) i; future = s.future }
 

@@ -1,39 +1,13 @@
--- A unit moves from the upper part of a pile to the lower one: nothing of the pile's sending side alters.
-use Rattle.std.proofs.Common.{◌≡◌, ℕ, ◌<◌, Bool, true, false, ltb, List, [], ◌∷◌, ◌++◌, length, drop, Some, sym, refl, ap, ◌∙◌, ap₂}
-use Rattle.stage.specs.Model.{Model, Sending, new_sending, answer, after, some, first, others, offered, sent}
+-- The sending side of a pile, where its parts are settled, and where an offer goes to its upper part.
+use Rattle.std.proofs.Common.{◌≡◌, ℕ, ◌<◌, true, false, ltb, List, [], ◌∷◌, ◌++◌, length, drop, sym, refl, ap, ◌∙◌, ap₂}
+use Rattle.std.proofs.lemmas.Bool.{cond-true, cond_both}
+use Rattle.stage.specs.Model.{Model, Sending, new_sending, answer, after, some, others, offered, sent}
 use Rattle.stage.specs.Rule.{Sends}
-use Rattle.stage.specs.Piled.{fits, if_fits, piled, joined_sending, piled_sending}
-use Rattle.stage.proofs.Futures.{sends_append, after_sends, after_nothing, after-after}
+use Rattle.stage.specs.Piled.{fits, piled, joined_sending, piled_sending}
+use Rattle.stage.proofs.Futures.{sends_append, after_sends, after_nothing}
 use Rattle.stage.proofs.Offers.{offer_sent}
-use Rattle.stage.proofs.Waits.{none_waits, first_waits}
-
--- what holds where the parts fit and where they do not
-pub if_fits_both : {A : Type 0} (P : A → Type 0) (b : Bool) {x y : A} → P x → P y → P (if_fits b x y)
-if_fits_both P true p q = p
-if_fits_both P false p q = q
-
-moved : (u l : Sending) (v : ℕ) → Sends l.future → l.waits ≡ [] → u.waits ≡ v ∷ others u.waits
-    → joined_sending (sent u) (offered true false l v) ≡ joined_sending u l
-moved u l v s e h =
-    let f = l.future in
-    let p : f (v ∷ []) ++ after f (v ∷ []) (others u.waits) ≡ l.waits ++ f u.waits =
-    sym (sends_append s (v ∷ []) (others u.waits)) ∙ ap f (sym h) ∙ ap (λ w. w ++ f u.waits) (sym e) in
-    let q : (xs : List ℕ) → after (after f (v ∷ [])) (others u.waits) (u.future xs) ≡ after f u.waits (u.future xs) =
-    λ xs. after-after s (v ∷ []) (others u.waits) (u.future xs) ∙ ap (λ w. after f w (u.future xs)) (sym h) in
-    λ i. record { waits = p i; future = λ xs. q xs i }
-
--- the turn of the loop, from what the calls answer
-pub moved_by : (u u' l l' : Sending) (v n : ℕ) → Sends l.future → some l.waits ≡ false → first u.waits ≡ Some v → v < n
-    → u' ≡ sent u → l' ≡ offered (ltb v n) (some l.waits) l v → joined_sending u' l' ≡ joined_sending u l
-moved_by u u' l l' v n s e h k p q =
-    let w = none_waits l.waits e in
-    ap₂ joined_sending p (q ∙ offer_sent l v n k w) ∙ moved u l v s w (first_waits u.waits v h)
 
 -- ws, and then vs, which is nothing where ws is
-first-append : (ws vs : List ℕ) → (ws ≡ [] → vs ≡ []) → first (ws ++ vs) ≡ first ws
-first-append [] vs h = ap first (h refl)
-first-append (w ∷ ws) vs h = refl
-
 others-append : (ws vs : List ℕ) → (ws ≡ [] → vs ≡ []) → others (ws ++ vs) ≡ others ws ++ vs
 others-append [] vs h = ap others (h refl) ∙ sym (h refl)
 others-append (w ∷ ws) vs h = refl
@@ -42,9 +16,6 @@ others-append (w ∷ ws) vs h = refl
 module _ (u l : Sending) (s : Sends l.future) (settled : l.waits ≡ [] → u.waits ≡ []) where
   quiet : l.waits ≡ [] → l.future u.waits ≡ []
   quiet e = ap l.future (settled e) ∙ s.none
-
-  pub settled_first : first (joined_sending u l).waits ≡ first l.waits
-  settled_first = first-append l.waits (l.future u.waits) quiet
 
   pub settled_sent : joined_sending u (sent l) ≡ sent (joined_sending u l)
   settled_sent = λ i. record { waits = sym (others-append l.waits (l.future u.waits) quiet) i; future = (joined_sending u l).future }
@@ -73,7 +44,7 @@ joined_accepting u l v su sl eu el =
 
 -- The pile where its parts fit, and where they do not.
 pub sending_fits : (m k : Model) (u l : Sending) → fits m k ≡ true → piled_sending m k u l ≡ joined_sending u l
-sending_fits m k u l e = ap (λ b. if_fits b (joined_sending u l) (new_sending (piled m k))) e
+sending_fits m k u l e = cond-true (fits m k) (joined_sending u l) (new_sending (piled m k)) e
 
 -- the whole of an accepted offer, from what the calls answer
 module _ (m k : Model) (u₀ l₀ u₁ l₁ : Sending) (v : ℕ) (e : fits m k ≡ true) (sl : Sends l₁.future)
@@ -85,7 +56,7 @@ module _ (m k : Model) (u₀ l₀ u₁ l₁ : Sending) (v : ℕ) (e : fits m k �
   idle = ap (λ s. s.waits) (joined_idle u₁ l₁ sl eu el)
 
   top : m.taken ≡ (piled m k).taken
-  top = sym (ap (λ b. if_fits b m.taken 0) e)
+  top = sym (cond-true (fits m k) m.taken 0 e)
 
   pub offer_answer : answer (ltb v m.taken) (some u₁.waits) ≡ answer (ltb v (piled m k).taken) (some (piled_sending m k u₀ l₀).waits)
   offer_answer = ap₂ (λ n w. answer (ltb v n) (some w)) top (eu ∙ sym idle ∙ ap (λ s. s.waits) whole)
@@ -99,14 +70,6 @@ module _ (m k : Model) (u₀ l₀ u₁ l₁ : Sending) (v : ℕ) (e : fits m k �
       ∙ sym (offer_sent (joined_sending u₁ l₁) v m.taken h idle)
       ∙ ap₂ (λ n s. offered (ltb v n) (some s.waits) s v) top whole
 
--- the same models and sides make the same pile
-pub same_sending : {m m' k k' : Model} {u u' l l' : Sending} → m' ≡ m → k' ≡ k → u' ≡ u → l' ≡ l
-    → piled_sending m' k' u' l' ≡ piled_sending m k u l
-same_sending p q r s = λ i. piled_sending (p i) (q i) (r i) (s i)
-
-pub same_down : {m m' k k' : Model} (u l : Sending) → m' ≡ m → k' ≡ k → fits m k ≡ true → piled_sending m' k' u l ≡ joined_sending u l
-same_down {m} {k = k} u l p q e = (λ i. piled_sending (p i) (q i) u l) ∙ sending_fits m k u l e
-
 -- what a pile will give is a future
 pub composed : {f g : List ℕ → List ℕ} → Sends f → Sends g → Sends (λ xs. g (f xs))
 composed {f} {g} s t = record {
@@ -117,4 +80,4 @@ composed {f} {g} s t = record {
 pub piled_sends : (m k : Model) (u l : Sending) → Sends m.sends → Sends k.sends → Sends u.future → Sends l.future
     → Sends (piled_sending m k u l).future
 piled_sends m k u l sm sk su sl =
-    if_fits_both (λ (s : Sending). Sends s.future) (fits m k) (composed su (after_sends sl u.waits)) (composed sm sk)
+    cond_both (fits m k) _ _ (λ (s : Sending). Sends s.future) (λ _. composed su (after_sends sl u.waits)) (λ _. composed sm sk)

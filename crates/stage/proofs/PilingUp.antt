@@ -1,15 +1,15 @@
 -- A unit moves from the lower part of a pile to the upper one: nothing of the pile's receiving side alters.
-use Rattle.std.proofs.Common.{◌≡◌, ℕ, ◌<◌, Bool, true, false, ltb, List, [], ◌∷◌, is_err, Some, None, Ok, Err, Option, sym, refl, ap, ◌∙◌, subst, ap₂, arith}
+use Rattle.std.proofs.Common.{◌≡◌, ℕ, ◌<◌, Bool, true, false, ltb, List, [], ◌∷◌, is_err, Some, None, Ok, Option, sym, refl, ap, ◌∙◌, subst, ap₂, arith}
 use mathlib.Core.Path.{fun_ext}
+use Rattle.std.proofs.lemmas.Bool.{cond-true, cond_both}
 use Rattle.stage.specs.declared.Fault.{Fault}
-use Rattle.stage.specs.Model.{Heard, Model, Receiving, new_receiving, answer, and_then, hushed, rest_of, silence, after_heard, others, some_heard, some_fault, first_heard, first_or, fault_or, heard, collected}
+use Rattle.stage.specs.Model.{Heard, Model, Receiving, new_receiving, answer, and_then, hushed, rest_of, silence, after_heard, others, some_heard, some_fault, first_heard, heard, collected}
 use Rattle.stage.specs.Rule.{Hears}
-use Rattle.stage.specs.Piled.{fits, if_fits, piled, lifted, fitting, keep_if, ending, or_misfit, misfit_at, hand_up, arriving, joined_waits, joined_receiving, piled_receiving}
+use Rattle.stage.specs.Piled.{fits, piled, lifted, fitting, keep_if, ending, or_misfit, misfit_at, hand_up, arriving, joined_waits, joined_receiving, piled_receiving}
 use Rattle.stage.proofs.HandingUp.{hand_up_clean, hand_up_then, hand_up_hears}
 use Rattle.stage.proofs.Hearing.{hears, rest-hushed, hushed_hears, hears_append, after-after-heard, after_hears, after_nothing_heard}
 use Rattle.stage.proofs.Offers.{offer_heard}
-use Rattle.stage.proofs.PilingDown.{if_fits_both}
-use Rattle.stage.proofs.Waits.{nothing_heard, unit-heard, none_heard, none_collected}
+use Rattle.stage.proofs.Waits.{nothing_heard, unit-heard}
 
 -- the sides, taken apart
 apart : (s : Receiving) (h : Heard) → s.waits ≡ h → s ≡ record { waits = h; future = s.future }
@@ -82,18 +82,13 @@ module _ (m : Model) (u l l' : Receiving) (v : ℕ) (s : Hears u.future) (idle :
 pub piled_hears : (misfit : Bool) (m k : Model) (u l : Receiving) → Hears m.hears → Hears k.hears → Hears u.future → Hears l.future
     → Hears (piled_receiving misfit m k u l).future
 piled_hears misfit m k u l sm sk su sl =
-    if_fits_both (λ (s : Receiving). Hears s.future) (fits m k)
-    (hushed_hears (joined_waits misfit m u l).fault (hand_up_hears m.size m.given (after_hears su (fitting m.given l.waits.units)) sl))
-    (hand_up_hears m.size m.given sm sk)
+    cond_both (fits m k) _ _ (λ (s : Receiving). Hears s.future)
+    (λ _. hushed_hears (joined_waits misfit m u l).fault (hand_up_hears m.size m.given (after_hears su (fitting m.given l.waits.units)) sl))
+    (λ _. hand_up_hears m.size m.given sm sk)
 
 -- the pile where its parts fit
 pub receiving_fits : (m k : Model) (misfit : Bool) (u l : Receiving) → fits m k ≡ true → piled_receiving misfit m k u l ≡ joined_receiving misfit m u l
-receiving_fits m k misfit u l e = ap (λ b. if_fits b (joined_receiving misfit m u l) (new_receiving (piled m k))) e
-
--- the same models and sides make the same pile
-pub same_receiving : {m m' k k' : Model} {u u' l l' : Receiving} (misfit : Bool) → m' ≡ m → k' ≡ k → u' ≡ u → l' ≡ l
-    → piled_receiving misfit m' k' u' l' ≡ piled_receiving misfit m k u l
-same_receiving misfit p q r s = λ i. piled_receiving misfit (p i) (q i) (r i) (s i)
+receiving_fits m k misfit u l e = cond-true (fits m k) (joined_receiving misfit m u l) (new_receiving (piled m k)) e
 
 pub same_up : {m m' k k' : Model} (misfit : Bool) (u l : Receiving) → m' ≡ m → k' ≡ k → fits m k ≡ true
     → piled_receiving misfit m' k' u l ≡ joined_receiving misfit m u l
@@ -132,17 +127,6 @@ end_waits m u l s e p =
     ap₂ (λ h us. and_then h (hand_up m.size m.given u.future (hears us l.waits.fault))) e p
     ∙ ap (λ h. and_then h (hears [] (lifted m.size l.waits.fault))) s.none
 
--- a take from there alters nothing
-pub take_end : (m : Model) (u l : Receiving) → Hears u.future → first_heard u.waits ≡ Ok None → l.waits.units ≡ []
-    → (first_heard (joined_receiving false m u l).waits ≡ fault_or (lifted m.size l.waits.fault))
-    × (joined_receiving false m (collected u) (collected l) ≡ collected (joined_receiving false m u l))
-take_end m u l s e p =
-    let w = end_waits m u l s (none_heard u.waits e) p in (
-      ap first_heard w,
-      ap₂ (joined_receiving false m) (none_collected u (ap (λ h. h.units) (none_heard u.waits e))) (none_collected l p)
-          ∙ sym (none_collected (joined_receiving false m u l) (ap (λ h. h.units) w)),
-    )
-
 -- nothing waits in either part
 joined_idle : (m : Model) (u l : Receiving) → Hears u.future → u.waits ≡ silence → l.waits ≡ silence
     → joined_receiving false m u l ≡ record { waits = silence; future = λ ys. hand_up m.size m.given u.future (l.future ys) }
@@ -167,9 +151,6 @@ not_lifted size None e = refl
 not_lifted size (Some f) e = let z : ◌≡◌ {A = ℕ} 0 1 = cc in absurd (omega arith)
 
 module _ (m : Model) (u l : Receiving) where
-  pub waits_nothing : Hears u.future → u.waits ≡ silence → l.waits ≡ silence → some_heard (joined_waits false m u l) ≡ false
-  waits_nothing s eu el = ap (λ s. some_heard s.waits) (joined_idle m u l s eu el)
-
   -- where nothing waits in a settled pile, nothing waits in its parts
   pub quiet_parts : (misfit : Bool) → Hears u.future → (u.waits ≡ silence → misfit ≡ false → l.waits.units ≡ [])
       → some_heard (joined_waits misfit m u l) ≡ false → (misfit ≡ false) × (u.waits ≡ silence) × (l.waits ≡ silence)
@@ -210,7 +191,7 @@ module _ (m k : Model) (misfit : Bool) (u₀ l₀ u₁ l₁ : Receiving) (v : �
   idle = ap (λ s. s.waits) (joined_idle m u₁ l₁ su eu el)
 
   top : k.given ≡ (piled m k).given
-  top = sym (ap (λ b. if_fits b k.given 0) e)
+  top = sym (cond-true (fits m k) k.given 0 e)
 
   pub heard-answer : answer (ltb v k.given) (some_heard l₁.waits) ≡ answer (ltb v (piled m k).given) (some_heard (piled_receiving misfit m k u₀ l₀).waits)
   heard-answer = ap₂ (λ n w. answer (ltb v n) (some_heard w)) top (el ∙ sym idle ∙ ap (λ s. s.waits) all)
@@ -222,11 +203,3 @@ module _ (m k : Model) (misfit : Bool) (u₀ l₀ u₁ l₁ : Receiving) (v : �
       ∙ joined-hearing m u₁ l₁ v su sl eu el
       ∙ sym (offer_heard (joined_receiving false m u₁ l₁) v k.given h idle)
       ∙ ap₂ (λ n s. heard (ltb v n) (some_heard s.waits) s v) top all
-
--- a take where no unit waits answers the fault, if there is one
-pub idle_fault : (h : Heard) → h.units ≡ [] → first_heard h ≡ fault_or h.fault
-idle_fault h p = ap (λ us. first_or us (fault_or h.fault)) p
-
-pub lifted_err : (size : ℕ) (o : Option Fault) (f : Fault) → fault_or o ≡ Err f → lifted size o ≡ lifted size (Some f)
-lifted_err size None f e = let z : ◌≡◌ {A = ℕ} 0 1 = cc in absurd (omega arith)
-lifted_err size (Some d) f e = let p : d ≡ f = cc in ap (λ (x : Fault). lifted size (Some x)) p

@@ -3,27 +3,11 @@ use Rattle.std.proofs.Common.{◌≡◌, ℕ, ◌+◌, ◌<◌, ◌≤◌, false
 use Rattle.std.proofs.lemmas.List.{drop_more, drop_all}
 use Rattle.std.proofs.lemmas.Bool.{cases_lt, lt-ltb, le-ltb}
 use Rattle.stage.specs.declared.Fault.{Fault}
-use Rattle.stage.specs.Model.{Heard, Sending, Receiving, silence, some, some_fault, some_or, some_heard, first, others, fault_or, first_or, first_heard, sent, collected}
+use Rattle.stage.specs.Model.{Heard, Receiving, silence, clean, some, some_fault, some_or, some_heard, first, others, fault_or, first_or, first_heard, collected}
+use Rattle.stage.specs.Faultless.{clean_some, clean_first}
 use Rattle.stage.proofs.Hearing.{hears}
 
--- A sending side: whether something waits, and what a take answers.
-pub none_waits : (ws : List ℕ) → some ws ≡ false → ws ≡ []
-none_waits [] e = refl
-none_waits (w ∷ ws) e = let z : ◌≡◌ {A = ℕ} 0 1 = cc in absurd (omega arith)
-
-pub first_waits : (ws : List ℕ) (v : ℕ) → first ws ≡ Some v → ws ≡ v ∷ others ws
-first_waits [] v e = let z : ◌≡◌ {A = ℕ} 0 1 = cc in absurd (omega arith)
-first_waits (w ∷ ws) v e = cc
-
-pub no_first : (ws : List ℕ) → first ws ≡ None → ws ≡ []
-no_first [] e = refl
-no_first (w ∷ ws) e = let z : ◌≡◌ {A = ℕ} 0 1 = cc in absurd (omega arith)
-
--- a take that answers nothing alters nothing
-pub none_sent : (s : Sending) → first s.waits ≡ None → sent s ≡ s
-none_sent s e = let w = no_first s.waits e in λ i. record { waits = (ap others w ∙ sym w) i; future = s.future }
-
--- A receiving side.
+-- A receiving side: whether something waits, and what a take answers.
 nothing_in : (us : List ℕ) (o : Option Fault) → some_or us (some_fault o) ≡ false → hears us o ≡ silence
 nothing_in [] None e = refl
 nothing_in [] (Some f) e = let z : ◌≡◌ {A = ℕ} 0 1 = cc in absurd (omega arith)
@@ -59,6 +43,16 @@ fault_heard h f e = fault_in h.units h.fault f e
 -- a take where no unit waits alters nothing
 pub none_collected : (s : Receiving) → s.waits.units ≡ [] → collected s ≡ s
 none_collected s p = λ i. record { waits = hears ((ap others p ∙ sym p) i) s.waits.fault; future = s.future }
+
+-- A sending side answers as a receiving side without a fault.
+pub none_waits : (ws : List ℕ) → some ws ≡ false → ws ≡ []
+none_waits ws e = ap (λ h. h.units) (nothing_heard (clean ws) (clean_some ws ∙ e))
+
+pub first_waits : (ws : List ℕ) (v : ℕ) → first ws ≡ Some v → ws ≡ v ∷ others ws
+first_waits ws v e = unit-heard (clean ws) v (clean_first ws ∙ ap Ok e)
+
+pub no_first : (ws : List ℕ) → first ws ≡ None → ws ≡ []
+no_first ws e = ap (λ h. h.units) (none_heard (clean ws) (clean_first ws ∙ ap Ok e))
 
 -- The rest of a list from a place on.
 pub some-rest : (xs : List ℕ) (n at : ℕ) → length xs ≡ n → some (drop at xs) ≡ ltb at n

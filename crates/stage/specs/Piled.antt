@@ -5,7 +5,7 @@
 --   misfit_at size      a unit was handed up that is not below the upper's given: cause 1 at the upper's last stage
 --   joined_sending, joined_receiving   a side of a pile, from the sides of its parts, where these fit
 --   piled_sending, piled_receiving     the same, and new where they do not
-use Rattle.std.specs.Prelude.{◌≡◌, ℕ, ◌+◌, min, Bool, true, false, List, [], ◌∷◌, ◌++◌, Some, None, Option, nat_le, nat_lt}
+use Rattle.std.specs.Prelude.{◌≡◌, ℕ, ◌+◌, min, Bool, true, false, cond, List, [], ◌∷◌, ◌++◌, Some, None, Option, nat_le, nat_lt}
 use Rattle.stage.specs.declared.Fault.{Fault}
 use Rattle.stage.specs.Model.{Heard, Model, Sending, Receiving, after, after_heard, and_then, hushed, new_sending, new_receiving}
 use Rattle.stage.specs.Rule.{Rule}
@@ -44,14 +44,10 @@ hand_up size g f h = and_then (f (fitting g h.units)) (record { units = []; faul
 abbrev pub fits : Model → Model → Bool
 fits u l = nat_le u.given l.taken
 
-abbrev pub if_fits : {A : Type 0} → Bool → A → A → A
-if_fits true x other = x
-if_fits false x other = other
-
 abbrev pub piled_if : Bool → Model → Model → Model
 piled_if b u l = record {
-  taken = if_fits b u.taken 0;
-  given = if_fits b l.given 0;
+  taken = cond b u.taken 0;
+  given = cond b l.given 0;
   size = min (u.size + l.size) most;
   hold = λ m. u.hold (l.hold m);
   sends = λ xs. l.sends (u.sends xs);
@@ -70,7 +66,7 @@ joined_sending u l = record {
 
 -- the sending side of a pile of parts with the models m and k
 abbrev pub piled_sending : Model → Model → Sending → Sending → Sending
-piled_sending m k u l = if_fits (fits m k) (joined_sending u l) (new_sending (piled m k))
+piled_sending m k u l = cond (fits m k) (joined_sending u l) (new_sending (piled m k))
 
 -- What the upper part gives once what waits in the lower part reaches it. `misfit`: a unit that did not fit already has.
 abbrev pub arriving : Bool → ℕ → ℕ → (List ℕ → Heard) → Heard → Heard
@@ -88,7 +84,7 @@ joined_receiving misfit m u l = record {
 }
 
 abbrev pub piled_receiving : Bool → Model → Model → Receiving → Receiving → Receiving
-piled_receiving misfit m k u l = if_fits (fits m k) (joined_receiving misfit m u l) (new_receiving (piled m k))
+piled_receiving misfit m k u l = cond (fits m k) (joined_receiving misfit m u l) (new_receiving (piled m k))
 
 -- Any stage above any other keeps the rule, with the upper hold of the lower hold.
 abbrev pub PilesKeepTheRule : Type 0

@@ -1,8 +1,8 @@
 use Rattle.std.proofs.Common.{◌≡◌, true, Some, Ok, sym, ap, ◌∙◌}
+use Rattle.std.proofs.lemmas.Bool.{and_parts}
 use Rattle.stage.specs.Model.{Receiving, collected}
 use Rattle.stage.specs.Piled.{fits, joined_receiving, piled_receiving}
 use Rattle.stage.proofs.PilingUp.{take-unit, same_up, receiving_fits}
-use Rattle.pile.proofs.Queueing.{fits_since}
 use Rattle.pile.proofs.rule.PileStage.receive_take.Goals as goal
 
 pub returns-in-Some-clause-side : goal.returns-in-Some-clause-side
@@ -18,7 +18,7 @@ returns-in-Some-clause-side g c =
     let misfit = c.settle_up.new.self.misfit in
     let u₁ : Receiving = u.receiving c.settle_up.new.self.upper in
     let l₁ : Receiving = l.receiving c.settle_up.new.self.lower in
-    let fit : fits m k ≡ true = fits_since (fits m k) _ (sym up.answers ∙ c.if-not-settle_up.false) in
+    let fit : fits m k ≡ true = (and_parts (fits m k) _ (sym up.answers ∙ c.if-not-settle_up.false)).0 in
     let upper_same : u.model c.receive_take.new.self ≡ m = took.fixed ∙ up.upper_fixed in
     let whole : joined_receiving misfit m u₁ l₁ ≡ piled_receiving p.misfit m k (u.receiving p.upper) (l.receiving p.lower) =
     up.side ∙ sym (receiving_fits m k p.misfit (u.receiving p.upper) (l.receiving p.lower) fit) in

@@ -1,8 +1,8 @@
-use Rattle.std.proofs.Common.{rules, subst, ◌≡◌, false, sym, ap, ◌∙◌}
+use Rattle.std.proofs.Common.{cond, rules, subst, ◌≡◌, false, sym, ap, ◌∙◌}
 use Rattle.stage.specs.declared.Passed.{Passed}
 use Rattle.stage.specs.Model.{Sending, new_sending}
 use Rattle.stage.specs.Passing.{Passes}
-use Rattle.stage.specs.Piled.{fits, if_fits, piled, joined_sending, piled_sending}
+use Rattle.stage.specs.Piled.{fits, piled, joined_sending, piled_sending}
 use Rattle.stage.proofs.Passing.{none_passes}
 use Rattle.stage.proofs.PilingDown.{piled_sends}
 use Rattle.pile.specs.Queued.{queueing}
@@ -23,4 +23,4 @@ returns-then-not-parts_fit-clause-passes g c =
     let none : c.default.result ≡ record { used = 0; made = 0; waits = false } = search rules in
     subst (λ (p : Passed). Passes (piled m k) (piled_sending m k u₀ l₀) (piled_sending m k u₀ l₀) c.args.input.now c.args.output.now c.args.output.now p) (sym none)
     (none_passes (piled m k) (piled_sending m k u₀ l₀) c.args.input.now c.args.output.now grow
-    (ap (λ b. (if_fits b (joined_sending u₀ l₀) (new_sending (piled m k))).waits) apart) (ap (λ b. if_fits b m.taken 0) apart))
+    (ap (λ b. (cond b (joined_sending u₀ l₀) (new_sending (piled m k))).waits) apart) (ap (λ b. cond b m.taken 0) apart))
