@@ -1,11 +1,11 @@
 -- Energy dispersal as a stage. A side is at a place of a group of 1504 bytes, and receiving does what sending does.
-use Rattle.std.specs.Prelude.{◌≡◌, ℕ, ◌+◌, ◌%◌, ◌<◌, List, [], ◌∷◌, length, Option, bit_xor, slice_index}
+use Rattle.std.specs.Prelude.{◌≡◌, ℕ, ◌+◌, ◌%◌, ◌<◌, List, [], ◌∷◌, length, bit_xor, slice_index}
 use Rattle.stage.specs.Machine.{gives}
 use Rattle.stage.specs.Model.{Model, Sending, Receiving, clean, heard_of}
 use Rattle.holds.specs.Capped.{capped}
 use Rattle.stage.specs.Waiting.{listed}
 use Rattle.dispersal.specs.declared.energy_dispersal.EnergyDispersal.{EnergyDispersal}
-use Rattle.dispersal.specs.declared.noise.Noise.{Noise}
+use Rattle.dispersal.specs.declared.side.Side.{Side}
 use Rattle.dispersal.specs.Noise.{mask}
 
 abbrev pub combined : ℕ → ℕ → List ℕ
@@ -24,15 +24,15 @@ energy_dispersal = record {
   hears = λ ys. clean (gives combined onward 0 ys);
 }
 
--- the side that a place and what waits make
-abbrev pub side_of : Noise → Option ℕ → Sending
-side_of noise waiting = record { waits = listed waiting; future = gives combined onward noise.place }
+-- what a side is: at most one byte waits, and its place says what comes
+abbrev pub side_of : Side → Sending
+side_of s = record { waits = listed s.waits; future = gives combined onward s.noise.place }
 
 abbrev pub sending_of : EnergyDispersal → Sending
-sending_of s = side_of s.leaving s.out
+sending_of s = side_of s.leaving
 
 abbrev pub receiving_of : EnergyDispersal → Receiving
-receiving_of s = heard_of (side_of s.arriving s.back)
+receiving_of s = heard_of (side_of s.arriving)
 
 -- Byte t of what a new stage sends is byte t combined with what belongs to place t mod 1504.
 pub record SendsDispersed : Type 0 where

@@ -7,16 +7,14 @@ ghost use Rattle.dispersal.specs.Restoring.{dispersal_rule};
 ghost use Rattle.stage.proofs.Machine.{gives_sends};
 ghost use Rattle.stage.specs.Faultless.{clean_hears};
 
-use crate::noise::Noise;
+use crate::side::Side;
 use refusal::Refusal;
 use stage::{Fault, Stage};
 
 #[derive(Drop)]
 pub struct EnergyDispersal {
-    leaving: Noise,
-    out: Option<u8>,
-    arriving: Noise,
-    back: Option<u8>,
+    leaving: Side,
+    arriving: Side,
 }
 
 impl EnergyDispersal {
@@ -25,10 +23,8 @@ impl EnergyDispersal {
         ensures hears { receiving_of result ≡ new_receiving energy_dispersal }
     {
         EnergyDispersal {
-            leaving: Noise::new(),
-            out: None,
-            arriving: Noise::new(),
-            back: None,
+            leaving: Side::new(),
+            arriving: Side::new(),
         }
     }
 }
@@ -44,7 +40,7 @@ impl Stage for EnergyDispersal {
 
     ghost sends = { λ s. gives_sends combined onward _ };
 
-    ghost hears = { λ s. clean_hears (gives_sends combined onward s.arriving.place) };
+    ghost hears = { λ s. clean_hears (gives_sends combined onward s.arriving.noise.place) };
 
     fn taken(&self) -> u16 {
         256
@@ -63,11 +59,11 @@ impl Stage for EnergyDispersal {
     }
 
     fn send_waits(&mut self) -> bool {
-        self.out.is_some()
+        self.leaving.waits()
     }
 
     fn receive_waits(&mut self) -> bool {
-        self.back.is_some()
+        self.arriving.waits()
     }
 
     fn renew(&mut self) {
@@ -75,26 +71,18 @@ impl Stage for EnergyDispersal {
     }
 
     fn send_offer(&mut self, unit: u8) -> Result<(), Refusal> {
-        if self.out.is_some() {
-            return Err(Refusal::SomethingWaits);
-        }
-        self.out = Some(self.leaving.pass(unit));
-        Ok(())
+        self.leaving.offer(unit)
     }
 
     fn send_take(&mut self) -> Option<u8> {
-        self.out.take()
+        self.leaving.take()
     }
 
     fn receive_offer(&mut self, unit: u8) -> Result<(), Refusal> {
-        if self.back.is_some() {
-            return Err(Refusal::SomethingWaits);
-        }
-        self.back = Some(self.arriving.pass(unit));
-        Ok(())
+        self.arriving.offer(unit)
     }
 
     fn receive_take(&mut self) -> Result<Option<u8>, Fault> {
-        Ok(self.back.take())
+        Ok(self.arriving.take())
     }
 }

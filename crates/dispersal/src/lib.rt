@@ -7,6 +7,8 @@ ghost use Rattle.dispersal.specs.EnergyDispersal.{energy_dispersal, SendsDispers
 
 pub mod energy_dispersal;
 mod noise;
+mod register;
+mod side;
 
 pub use energy_dispersal::EnergyDispersal;
 

@@ -1,18 +1,9 @@
-use Rattle.std.proofs.Common.{◌≡◌, ℕ, ◌+◌, ◌<◌, sym, ap, ◌∙◌, arith}
+use Rattle.std.proofs.Common.{◌≡◌, ◌+◌, sym, ap, ◌∙◌, arith}
 use lib.Bits.{bit_xor}
 use Rattle.dispersal.specs.Noise.{outputs, before, masked, moved_on}
-use Rattle.dispersal.specs.Masks.{before_lt, before-first, before-next, mask_is}
+use Rattle.dispersal.specs.Masks.{before-first, before-next, mask_is}
 use Rattle.dispersal.proofs.noise.Noise.pass.Goals as goal
 use Rattle.dispersal.proofs.noise.Noise.pass.Goals.{then-place-eq0, else-place-eq0}
-
-small : (register place : ℕ) → register ≡ before place → register < 32768
-small register place e = omega (arith, before_lt place)
-
-pub next_outputs-out-requires : goal.next_outputs-out-requires
-next_outputs-out-requires c = let s = c.args.self.now in small s.register s.place s.runs
-
-pub moved-register-requires : goal.moved-register-requires
-moved-register-requires c = let s = c.args.self.now in (small s.register s.place s.runs, c.next_outputs-out.ensures)
 
 pub invariant_of-self : goal.invariant_of-self
 invariant_of-self c =
@@ -21,10 +12,10 @@ invariant_of-self c =
     record {
       within = omega (arith, c.next_place-place.ensures);
       runs = elim c.if-place-eq0.branch [
-        | then-place-eq0 w ↦ w.register-is ∙ sym (before-first next w.if-place-eq0.true)
+        | then-place-eq0 w ↦ ap (λ r. r.bits) w.register-is ∙ w.loaded-register.ensures ∙ sym (before-first next w.if-place-eq0.true)
         | else-place-eq0 w ↦
             let on : s.place + 1 ≡ next = omega (arith, c.next_place-place.ensures, w.if-place-eq0.false) in
-            w.register-is ∙ w.moved-register.ensures ∙ ap (moved_on s.place) s.runs ∙ sym (before-next s.place) ∙ ap before on
+            ap (λ r. r.bits) w.register-is ∙ w.moved-register.ensures ∙ ap (moved_on s.place) s.runs ∙ sym (before-next s.place) ∙ ap before on
       ];
     }
 
@@ -33,6 +24,6 @@ returns c =
     let s = c.args.self.now in
     record {
       out = ap (bit_xor c.args.byte)
-          (c.mask_at-mask.ensures ∙ ap (masked s.place) (c.next_outputs-out.ensures ∙ ap (outputs 8 0) s.runs) ∙ sym (mask_is s.place));
+          (c.mask_at-mask.ensures ∙ ap (masked s.place) (c.outputs.ensures ∙ ap (outputs 8 0) s.runs) ∙ sym (mask_is s.place));
       on = c.next_place-place.ensures;
     }
