@@ -1,3 +1,3 @@
 pub mod CoderSides
 pub mod Ringing
-pub mod Tables
+pub mod Making

@@ -1,11 +1,9 @@
 -- The outer interleaver as a stage.
-use Rattle.std.specs.Prelude.{ℕ, ◌+◌, Bool, true, false, Some, None, Option}
+use Rattle.std.specs.Prelude.{ℕ, ◌+◌, [], Some, Ok, Err, Option, Result}
 use Rattle.stage.specs.declared.Fault.{Fault}
-use Rattle.stage.specs.Model.{Model, Sending, Receiving, hushed}
+use Rattle.stage.specs.Model.{Heard, Model, Sending, Receiving, clean, hushed}
 use Rattle.holds.specs.Capped.{capped}
-use Rattle.outer.specs.declared.bank.Bank.{Bank}
-use Rattle.outer.specs.Banks.{branches_of}
-use Rattle.outer.specs.Branches.{new_branches, sending_depths, interleaved, new_arriving, restored, unreached}
+use Rattle.outer.specs.Branches.{Branches, new_branches, sending_depths, interleaved, new_arriving, restored}
 use Rattle.stage.specs.Waiting.{listed}
 
 abbrev pub plus_2244 : ℕ → ℕ
@@ -21,15 +19,16 @@ outer_interleaver = record {
   hears = restored new_arriving;
 }
 
-abbrev pub interleaver_sending : Bank → Option ℕ → Sending
-interleaver_sending leaving out = record { waits = listed out; future = interleaved (branches_of leaving.branches leaving.turn) }
+abbrev pub interleaver_sending : Branches → Option ℕ → Sending
+interleaver_sending leaving out = record { waits = listed out; future = interleaved leaving }
 
-abbrev pub fault_if : Bool → Option Fault
-fault_if true = Some unreached
-fault_if false = None
+-- what waits: a byte perhaps, or the fault
+abbrev pub arrived_heard : Result (Option ℕ) Fault → Heard
+arrived_heard (Ok o) = clean (listed o)
+arrived_heard (Err f) = record { units = []; fault = Some f }
 
-abbrev pub interleaver_receiving : Bank → ℕ → Option ℕ → Bool → Receiving
-interleaver_receiving arriving count back failed = record {
-  waits = record { units = listed back; fault = fault_if failed };
-  future = λ ys. hushed (fault_if failed) (restored (record { branches = branches_of arriving.branches arriving.turn; count = count }) ys);
+abbrev pub interleaver_receiving : Branches → ℕ → Result (Option ℕ) Fault → Receiving
+interleaver_receiving arriving count arrived = record {
+  waits = arrived_heard arrived;
+  future = λ ys. hushed (arrived_heard arrived).fault (restored (record { branches = arriving; count = count }) ys);
 }

@@ -2,7 +2,7 @@
 // Input: bytes. Output: bytes, one for each; receiving drops the first 2244.
 ghost use Rattle.std.specs.Prelude.{◌≡◌, ◌≤◌};
 ghost use Rattle.stage.specs.Model.{new_sending, new_receiving};
-ghost use Rattle.outer.specs.OuterInterleaver.{outer_interleaver, interleaver_sending, interleaver_receiving, fault_if};
+ghost use Rattle.outer.specs.OuterInterleaver.{outer_interleaver, interleaver_sending, interleaver_receiving, arrived_heard};
 ghost use Rattle.outer.specs.Interleaving.{interleaver_rule};
 ghost use Rattle.stage.proofs.Machine.{gives_sends, hears_from_hears};
 ghost use Rattle.outer.specs.Branches.{sends_one, passing, hears_one, arriving_after};
@@ -12,6 +12,14 @@ use crate::bank::Bank;
 use refusal::Refusal;
 use stage::{Fault, Stage};
 
+// How many of its own bytes each branch delays by: branch j 17 × j where bytes are sent, and 17 × (11 − j) where they come back.
+const SENDING: [usize; 12] = [0, 17, 34, 51, 68, 85, 102, 119, 136, 153, 170, 187];
+
+const HEARING: [usize; 12] = [187, 170, 153, 136, 119, 102, 85, 68, 51, 34, 17, 0];
+
+// A byte other than 0 came where none can be yet.
+const UNREACHED: Fault = Fault { stage: 1, cause: 3 };
+
 #[derive(Drop)]
 pub struct OuterInterleaver {
     leaving: Bank,
@@ -19,23 +27,22 @@ pub struct OuterInterleaver {
     arriving: Bank,
     // How many bytes have arrived, up to 2244.
     count: usize,
-    back: Option<u8>,
-    failed: bool,
+    // The byte that waits, or the fault.
+    arrived: Result<Option<u8>, Fault>,
     ghost counted: { count ≤ 2244 },
 }
 
 impl OuterInterleaver {
     pub fn new() -> OuterInterleaver
         ensures sends { interleaver_sending result.leaving result.out ≡ new_sending outer_interleaver }
-        ensures hears { interleaver_receiving result.arriving result.count result.back result.failed ≡ new_receiving outer_interleaver }
+        ensures hears { interleaver_receiving result.arriving result.count result.arrived ≡ new_receiving outer_interleaver }
     {
         OuterInterleaver {
-            leaving: Bank::sending(),
+            leaving: Bank::new(SENDING),
             out: None,
-            arriving: Bank::hearing(),
+            arriving: Bank::new(HEARING),
             count: 0,
-            back: None,
-            failed: false,
+            arrived: Ok(None),
         }
     }
 }
@@ -45,13 +52,13 @@ impl Stage for OuterInterleaver {
 
     ghost sending = { λ s. interleaver_sending s.leaving s.out };
 
-    ghost receiving = { λ s. interleaver_receiving s.arriving s.count s.back s.failed };
+    ghost receiving = { λ s. interleaver_receiving s.arriving s.count s.arrived };
 
     ghost rule = { λ s. interleaver_rule };
 
     ghost sends = { λ s. gives_sends sends_one passing _ };
 
-    ghost hears = { λ s. hushed_hears (fault_if s.failed) (hears_from_hears hears_one arriving_after _) };
+    ghost hears = { λ s. hushed_hears (arrived_heard s.arrived).fault (hears_from_hears hears_one arriving_after _) };
 
     fn taken(&self) -> u16 {
         256
@@ -74,7 +81,7 @@ impl Stage for OuterInterleaver {
     }
 
     fn receive_waits(&mut self) -> bool {
-        self.back.is_some() || self.failed
+        !matches!(self.arrived, Ok(None))
     }
 
     fn renew(&mut self) {
@@ -94,29 +101,25 @@ impl Stage for OuterInterleaver {
     }
 
     fn receive_offer(&mut self, unit: u8) -> Result<(), Refusal> {
-        if self.back.is_some() || self.failed {
+        if !matches!(self.arrived, Ok(None)) {
             return Err(Refusal::SomethingWaits);
         }
         if unit != 0 && self.count < 204 * self.arriving.turn() {
-            self.failed = true;
+            self.arrived = Err(UNREACHED);
             return Ok(());
         }
         let byte = self.arriving.pass(unit);
         if self.count < 2244 {
             self.count += 1;
         } else {
-            self.back = Some(byte);
+            self.arrived = Ok(Some(byte));
         }
         Ok(())
     }
 
     fn receive_take(&mut self) -> Result<Option<u8>, Fault> {
-        if let Some(byte) = self.back.take() {
-            return Ok(Some(byte));
-        }
-        if self.failed {
-            return Err(Fault { stage: 1, cause: 3 });
-        }
-        Ok(None)
+        let byte = self.arrived?;
+        self.arrived = Ok(None);
+        Ok(byte)
     }
 }

@@ -9,10 +9,10 @@ use Rattle.outer.proofs.branch.Branch.pass.Goals.{then-place-self, else-place-se
 pub returns-then-self-eq0 : goal.returns-then-self-eq0
 unfolding ring
 returns-then-self-eq0 c =
-    let s = c.args.self.now in
+    let s = c.self.inside in
     let x = c.args.byte in
-    let none : turned (take s.depth s.store) s.place ≡ [] =
-    ap (λ d. turned (take d s.store) s.place) c.if-self-eq0.true ∙ turned_none s.store s.place in
+    let none : c.args.self.now ≡ [] =
+    sym c.self.view_is ∙ ap (λ d. turned (take d s.store) s.place) c.if-self-eq0.true ∙ turned_none s.store s.place in
     record {
       out = sym (ap (λ (q : List ℕ). oldest (q ++ x ∷ [])) none);
       left = none ∙ sym (ap (λ (q : List ℕ). drop 1 (q ++ x ∷ [])) none);
@@ -21,17 +21,17 @@ returns-then-self-eq0 c =
 pub returns : goal.returns
 unfolding ring
 returns c =
-    let b = c.args.self.now in
+    let b = c.self.inside in
     let x = c.args.byte in
     let n = b.depth in
     let p = b.place in
     let s : List ℕ = take n b.store in
     let long : length b.store ≡ 187 = search rules in
-    let len : length s ≡ n = length-take-le n b.store (omega arith) in
-    let in_place : p < n = omega arith in
+    let len : length s ≡ n = length-take-le n b.store (omega (arith, c.self.invariant.0)) in
+    let in_place : p < n = omega (arith, c.self.invariant.1) in
     let inside : p < length s = omega arith in
     record {
-      out = sym (get_or-take n b.store p 0 in_place) ∙ turned_out s p x inside;
+      out = sym (get_or-take n b.store p 0 in_place) ∙ turned_out s p x inside ∙ ap (λ (q : List ℕ). oldest (q ++ x ∷ [])) c.self.view_is;
       left = elim c.if-place-self.branch [
         | then-place-self w ↦
             ap (λ q. turned (take n (set b.store p x)) q) w.self-is
@@ -39,5 +39,5 @@ returns c =
         | else-place-self w ↦
             ap (λ q. turned (take n (set b.store p x)) q) w.self-is
             ∙ ap (λ t. turned t (p + 1)) (take_set n p b.store x) ∙ turned_on s p x inside
-      ];
+      ] ∙ ap (λ (q : List ℕ). drop 1 (q ++ x ∷ [])) c.self.view_is;
     }
