@@ -1,3 +1,5 @@
-pub mod CoderSides
 pub mod Ringing
 pub mod Making
+pub mod Dues
+pub mod Arriving
+pub mod Checking

@@ -1,3 +1,4 @@
+pub mod Arrived
 pub mod OuterCoder
 pub mod Protection
 pub mod Branches

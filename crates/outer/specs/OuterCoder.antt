@@ -1,5 +1,5 @@
 -- The outer coder as a stage: each packet of 188 bytes is followed by its sixteen parity bytes.
-use Rattle.std.specs.Prelude.{ℕ, zero, suc, ◌+◌, Bool, true, false, cond, ◌&&◌, List, [], ◌∷◌, ◌++◌, length, take, drop, Some, None, Option, ◌==◌, nat_lt}
+use Rattle.std.specs.Prelude.{ℕ, zero, suc, ◌+◌, Bool, true, false, cond, ◌&&◌, List, [], ◌∷◌, ◌++◌, length, take, drop, Some, None, Ok, Err, Option, Result, ◌==◌, nat_lt}
 use Rattle.reed.specs.Code.{remainder, stepped}
 use Rattle.reed.specs.Field.{power, value}
 use Rattle.reed.specs.Registers.{sixteen}
@@ -9,6 +9,7 @@ use Rattle.stage.specs.Machine.{gives, hears_from}
 use Rattle.stage.specs.Model.{Heard, Model, Sending, Receiving, clean, silence, hushed}
 use Rattle.holds.specs.Capped.{capped}
 use Rattle.stage.specs.Waiting.{listed}
+use Rattle.outer.specs.Arrived.{arrived_heard}
 
 -- Sending: how many bytes of the packet have gone, and the remainder that they leave.
 pub record Progress : Type 0 where
@@ -66,19 +67,21 @@ outer_coder = record {
   hears = restored_from [];
 }
 
--- The sides: `left` bytes of the parity `due` wait after the byte `out`, and the bytes of `block` from `place` to 188 wait.
-abbrev pub coder_sending : ℕ → Parity → Option ℕ → Parity → ℕ → Sending
-coder_sending count parity out due left = record {
-  waits = listed out ++ take left (sixteen due.register);
-  future = coded (record { gone = count; so_far = sixteen parity.register });
+-- Sending: the byte `out` waits, and after it the bytes of the parity `due`.
+abbrev pub coder_sending : ℕ → Parity → Option ℕ → List ℕ → Sending
+coder_sending sent parity out due = record {
+  waits = listed out ++ due;
+  future = coded (record { gone = sent; so_far = sixteen parity.register });
 }
 
-abbrev pub root_fault : Bool → Option Fault
-root_fault true = Some failed_root
-root_fault false = None
+-- Receiving: a block is gathered, or the bytes of a packet wait from a place on, or the fault.
+abbrev pub begun : List ℕ → Result (Option ℕ) Fault → List ℕ
+begun block (Ok None) = block
+begun packet (Ok (Some place)) = []
+begun block (Err f) = []
 
-abbrev pub coder_receiving : List ℕ → ℕ → ℕ → Bool → Receiving
-coder_receiving block count place failed = record {
-  waits = record { units = drop place (take 188 block); fault = root_fault failed };
-  future = λ ys. hushed (root_fault failed) (restored_from (take count block) ys);
+abbrev pub coder_receiving : List ℕ → Result (Option ℕ) Fault → Receiving
+coder_receiving block arrived = record {
+  waits = arrived_heard (λ place. drop place block) arrived;
+  future = λ ys. hushed (arrived_heard (λ place. drop place block) arrived).fault (restored_from (begun block arrived) ys);
 }

@@ -1,10 +1,11 @@
 -- The outer interleaver as a stage.
-use Rattle.std.specs.Prelude.{ℕ, ◌+◌, [], Some, Ok, Err, Option, Result}
+use Rattle.std.specs.Prelude.{ℕ, ◌+◌, [], ◌∷◌, Option, Result}
 use Rattle.stage.specs.declared.Fault.{Fault}
-use Rattle.stage.specs.Model.{Heard, Model, Sending, Receiving, clean, hushed}
+use Rattle.stage.specs.Model.{Model, Sending, Receiving, hushed}
 use Rattle.holds.specs.Capped.{capped}
 use Rattle.outer.specs.Branches.{Branches, new_branches, sending_depths, interleaved, new_arriving, restored}
 use Rattle.stage.specs.Waiting.{listed}
+use Rattle.outer.specs.Arrived.{arrived_heard}
 
 abbrev pub plus_2244 : ℕ → ℕ
 plus_2244 m = m + 2244
@@ -22,13 +23,8 @@ outer_interleaver = record {
 abbrev pub interleaver_sending : Branches → Option ℕ → Sending
 interleaver_sending leaving out = record { waits = listed out; future = interleaved leaving }
 
--- what waits: a byte perhaps, or the fault
-abbrev pub arrived_heard : Result (Option ℕ) Fault → Heard
-arrived_heard (Ok o) = clean (listed o)
-arrived_heard (Err f) = record { units = []; fault = Some f }
-
 abbrev pub interleaver_receiving : Branches → ℕ → Result (Option ℕ) Fault → Receiving
 interleaver_receiving arriving count arrived = record {
-  waits = arrived_heard arrived;
-  future = λ ys. hushed (arrived_heard arrived).fault (restored (record { branches = arriving; count = count }) ys);
+  waits = arrived_heard (λ byte. byte ∷ []) arrived;
+  future = λ ys. hushed (arrived_heard (λ byte. byte ∷ []) arrived).fault (restored (record { branches = arriving; count = count }) ys);
 }

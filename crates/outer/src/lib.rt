@@ -9,6 +9,7 @@ ghost use Rattle.outer.specs.Serializer.{serializer as serializer_model};
 
 mod bank;
 mod branch;
+mod due;
 pub mod outer_coder;
 pub mod outer_interleaver;
 pub mod serializer;

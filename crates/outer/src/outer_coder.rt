@@ -1,70 +1,48 @@
 // The outer coder as a stage (EN 300 744, clause 4.3.2): after every 188 bytes come the sixteen of their parity.
 // Input: bytes. Output: bytes, 204 for 188; receiving gives 188 for 204, or cause 2.
-ghost use Rattle.std.specs.Prelude.{◌≡◌, ◌<◌, ◌≤◌, nat_lt};
+ghost use Rattle.std.specs.Prelude.{◌≡◌, ℕ, ◌<◌, length, Some, None, Ok};
 ghost use Rattle.stage.specs.Model.{new_sending, new_receiving};
-ghost use Rattle.outer.specs.OuterCoder.{outer_coder, failed_root, coder_sending, coder_receiving, passes, progressed, hears_block, gathered, root_fault};
+ghost use Rattle.outer.specs.OuterCoder.{outer_coder, coder_sending, coder_receiving, passes, progressed, hears_block, gathered};
 ghost use Rattle.outer.specs.Protecting.{coder_rule};
 ghost use Rattle.stage.proofs.Machine.{gives_sends, hears_from_hears};
 ghost use Rattle.stage.proofs.Hearing.{hushed_hears};
 
+use crate::due::Due;
+use arrayvec::ArrayVec;
 use reed::{Parity, is_codeword};
 use refusal::Refusal;
 use stage::{Fault, Stage};
 
+// A block was not zero at some root.
+const FAILED_ROOT: Fault = Fault { stage: 1, cause: 2 };
+
 #[derive(Drop)]
 pub struct OuterCoder {
-    // Sending: the parity of the `sent` bytes of the packet so far, the byte that waits, and the `left` bytes of `due` that wait after it.
+    // Sending: the parity of the `sent` bytes of the packet so far, the byte that waits, and the bytes of a parity that wait after it.
     parity: Parity,
     sent: u8,
     out: Option<u8>,
-    due: Parity,
-    left: u8,
-    // Receiving: the first `heard` bytes of a block, or a packet, whose bytes wait from `place` to 188.
-    block: [u8; 204],
-    heard: usize,
-    place: usize,
-    failed: bool,
+    due: Due,
+    // Receiving: the bytes of a block so far, or those of a packet, which wait from a place on, or the fault.
+    block: ArrayVec<u8, 204>,
+    arrived: Result<Option<usize>, Fault>,
     ghost begun: { sent < 188 },
-    ghost room: { left ≤ 16 },
-    ghost gathering: { heard < 204 },
-    ghost within: { place ≤ 188 },
-}
-
-// Whether a packet goes on after the next byte, where so many bytes of it have gone.
-fn packet_goes_on(sent: u8) -> bool
-    ensures { result ≡ nat_lt sent 187 }
-{
-    sent < 187
-}
-
-// The same of a block that arrives.
-fn block_goes_on(heard: usize) -> bool
-    ensures { result ≡ nat_lt heard 203 }
-{
-    heard < 203
-}
-
-fn root_fails() -> Fault
-    ensures { result ≡ failed_root }
-{
-    Fault { stage: 1, cause: 2 }
+    ghost short: { arrived ≡ Ok None → length block.items < 204 },
+    ghost within: { (at : ℕ) → arrived ≡ Ok (Some at) → at < length block.items },
 }
 
 impl OuterCoder {
     pub fn new() -> OuterCoder
-        ensures sends { coder_sending result.sent result.parity result.out result.due result.left ≡ new_sending outer_coder }
-        ensures hears { coder_receiving result.block result.heard result.place result.failed ≡ new_receiving outer_coder }
+        ensures sends { coder_sending result.sent result.parity result.out result.due ≡ new_sending outer_coder }
+        ensures hears { coder_receiving result.block.items result.arrived ≡ new_receiving outer_coder }
     {
         OuterCoder {
             parity: Parity::new(),
             sent: 0,
             out: None,
-            due: Parity::new(),
-            left: 0,
-            block: [0; 204],
-            heard: 0,
-            place: 188,
-            failed: false,
+            due: Due::nothing(),
+            block: ArrayVec::new(),
+            arrived: Ok(None),
         }
     }
 }
@@ -72,15 +50,15 @@ impl OuterCoder {
 impl Stage for OuterCoder {
     ghost model = { λ _. outer_coder };
 
-    ghost sending = { λ s. coder_sending s.sent s.parity s.out s.due s.left };
+    ghost sending = { λ s. coder_sending s.sent s.parity s.out s.due };
 
-    ghost receiving = { λ s. coder_receiving s.block s.heard s.place s.failed };
+    ghost receiving = { λ s. coder_receiving s.block.items s.arrived };
 
     ghost rule = { λ s. coder_rule };
 
     ghost sends = { λ s. gives_sends passes progressed _ };
 
-    ghost hears = { λ s. hushed_hears (root_fault s.failed) (hears_from_hears hears_block gathered _) };
+    ghost hears = { λ s. hushed_hears _ (hears_from_hears hears_block gathered _) };
 
     fn taken(&self) -> u16 {
         256
@@ -99,11 +77,11 @@ impl Stage for OuterCoder {
     }
 
     fn send_waits(&mut self) -> bool {
-        self.out.is_some() || self.left > 0
+        self.out.is_some() || self.due.waits()
     }
 
     fn receive_waits(&mut self) -> bool {
-        self.place < 188 || self.failed
+        !matches!(self.arrived, Ok(None))
     }
 
     fn renew(&mut self) {
@@ -111,17 +89,14 @@ impl Stage for OuterCoder {
     }
 
     fn send_offer(&mut self, unit: u8) -> Result<(), Refusal> {
-        if self.out.is_some() || self.left > 0 {
+        if self.out.is_some() || self.due.waits() {
             return Err(Refusal::SomethingWaits);
         }
         self.out = Some(unit);
         self.parity.push(unit);
-        if packet_goes_on(self.sent) {
-            self.sent += 1;
-        } else {
-            let whole = self.parity;
-            self.due = whole;
-            self.left = 16;
+        self.sent += 1;
+        if self.sent == 188 {
+            self.due = Due::of(self.parity);
             self.parity = Parity::new();
             self.sent = 0;
         }
@@ -132,40 +107,37 @@ impl Stage for OuterCoder {
         if let Some(byte) = self.out.take() {
             return Some(byte);
         }
-        if self.left == 0 {
-            return None;
-        }
-        self.left -= 1;
-        Some(self.due.shift())
+        self.due.take()
     }
 
     fn receive_offer(&mut self, unit: u8) -> Result<(), Refusal> {
-        if self.place < 188 || self.failed {
+        if !matches!(self.arrived, Ok(None)) {
             return Err(Refusal::SomethingWaits);
         }
-        self.block[self.heard] = unit;
-        if block_goes_on(self.heard) {
-            self.heard += 1;
+        self.block.push(unit);
+        if !self.block.is_full() {
             return Ok(());
         }
-        self.heard = 0;
-        if is_codeword(&self.block) {
-            self.place = 0;
+        if is_codeword(self.block.as_slice()) {
+            self.block.truncate(188);
+            self.arrived = Ok(Some(0));
         } else {
-            self.failed = true;
+            self.arrived = Err(FAILED_ROOT);
         }
         Ok(())
     }
 
     fn receive_take(&mut self) -> Result<Option<u8>, Fault> {
-        if self.place < 188 {
-            let byte = self.block[self.place];
-            self.place += 1;
-            return Ok(Some(byte));
+        let Some(place) = self.arrived? else {
+            return Ok(None);
+        };
+        let byte = self.block.as_slice()[place];
+        if place + 1 < self.block.len() {
+            self.arrived = Ok(Some(place + 1));
+        } else {
+            self.block.clear();
+            self.arrived = Ok(None);
         }
-        if self.failed {
-            return Err(root_fails());
-        }
-        Ok(None)
+        Ok(Some(byte))
     }
 }

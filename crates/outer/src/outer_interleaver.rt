@@ -2,7 +2,7 @@
 // Input: bytes. Output: bytes, one for each; receiving drops the first 2244.
 ghost use Rattle.std.specs.Prelude.{◌≡◌, ◌≤◌};
 ghost use Rattle.stage.specs.Model.{new_sending, new_receiving};
-ghost use Rattle.outer.specs.OuterInterleaver.{outer_interleaver, interleaver_sending, interleaver_receiving, arrived_heard};
+ghost use Rattle.outer.specs.OuterInterleaver.{outer_interleaver, interleaver_sending, interleaver_receiving};
 ghost use Rattle.outer.specs.Interleaving.{interleaver_rule};
 ghost use Rattle.stage.proofs.Machine.{gives_sends, hears_from_hears};
 ghost use Rattle.outer.specs.Branches.{sends_one, passing, hears_one, arriving_after};
@@ -58,7 +58,7 @@ impl Stage for OuterInterleaver {
 
     ghost sends = { λ s. gives_sends sends_one passing _ };
 
-    ghost hears = { λ s. hushed_hears (arrived_heard s.arrived).fault (hears_from_hears hears_one arriving_after _) };
+    ghost hears = { λ s. hushed_hears _ (hears_from_hears hears_one arriving_after _) };
 
     fn taken(&self) -> u16 {
         256
