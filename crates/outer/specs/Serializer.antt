@@ -32,10 +32,10 @@ eighths m = (m + 7) / 8
 abbrev pub serializer : Model
 serializer = blockwise 1 8 256 2 eighths same tt bits_of byte_of
 
--- the sending side: the last `left` bits of a byte wait
-abbrev pub serial_sending : ℕ → ℕ → Sending
-serial_sending byte left = block_sending same bits_of 1 (last_bits left byte) tt []
+-- the sending side: bits of a byte wait
+abbrev pub serial_sending : List ℕ → Sending
+serial_sending bits = block_sending same bits_of 1 bits tt []
 
--- the receiving side: perhaps a byte waits, and `have` bits are gathered
-abbrev pub serial_receiving : ℕ → ℕ → Option ℕ → Receiving
-serial_receiving bits have back = block_receiving same byte_of 8 (listed back) tt (last_bits have bits)
+-- the receiving side: perhaps a byte waits, and bits are gathered
+abbrev pub serial_receiving : List ℕ → Option ℕ → Receiving
+serial_receiving bits back = block_receiving same byte_of 8 (listed back) tt bits

@@ -8,8 +8,10 @@ ghost use Rattle.outer.specs.Protection.{SendsCodewords, HearsCodewords};
 ghost use Rattle.outer.specs.Serializer.{serializer as serializer_model};
 
 mod bank;
+mod bits;
 mod branch;
 mod due;
+mod octet;
 pub mod outer_coder;
 pub mod outer_interleaver;
 pub mod serializer;
