@@ -7,7 +7,7 @@ use Rattle.stage.specs.declared.Fault.{Fault}
 use Rattle.stage.specs.Model.{Heard, Receiving, silence, hushed, some_heard, heard}
 use Rattle.stage.proofs.Machine.{hears_from_heard}
 use Rattle.outer.specs.Arrived.{arrived_heard}
-use Rattle.outer.specs.OuterCoder.{checked, decoded, vanishes, hears_block, gathered, restored_from, begun, coder_receiving}
+use Rattle.outer.specs.OuterCoder.{checked, decoded, vanishes, hears_block, gathered, restored_from, begun, coder_hearing}
 use Rattle.outer.specs.Protecting.{codeword_decides}
 
 abbrev side : Heard → List ℕ → Receiving
@@ -16,7 +16,7 @@ side w b = record { waits = w; future = λ ys. hushed w.fault (restored_from b y
 -- v says whether it is a codeword
 pub heard_whole : (b whole held : List ℕ) (u : ℕ) (was is : Result (Option ℕ) Fault) (v : Bool) → u < 256 → was ≡ Ok None → whole ≡ b ++ u ∷ []
     → length whole ≡ 204 → Decides v (Codeword whole) → arrived_heard (λ at. drop at held) is ≡ checked v whole → begun held is ≡ []
-    → coder_receiving held is ≡ heard (ltb u 256) (some_heard (arrived_heard (λ at. drop at b) was)) (coder_receiving b was) u
+    → coder_hearing held is ≡ heard (ltb u 256) (some_heard (arrived_heard (λ at. drop at b) was)) (coder_hearing b was) u
 heard_whole b whole held u was is v fits idle pushed long d waits new =
     let last : ltb (length b) 203 ≡ ltb 203 203 = le-ltb (length b) 203 (omega (arith, long, ap length pushed, length-append b (u ∷ []))) in
     let out : checked v whole ≡ hears_block b u =
@@ -26,4 +26,4 @@ heard_whole b whole held u was is v fits idle pushed long d waits new =
     let next : [] ≡ gathered b u = sym (ap (λ t. cond t (b ++ u ∷ []) []) last) in
     ap₂ side (waits ∙ out) (new ∙ next)
     ∙ sym (hears_from_heard hears_block gathered b u 256 fits)
-    ∙ sym (ap (λ (was : Result (Option ℕ) Fault). heard (ltb u 256) (some_heard (arrived_heard (λ at. drop at b) was)) (coder_receiving b was) u) idle)
+    ∙ sym (ap (λ (was : Result (Option ℕ) Fault). heard (ltb u 256) (some_heard (arrived_heard (λ at. drop at b) was)) (coder_hearing b was) u) idle)

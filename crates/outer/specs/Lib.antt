@@ -5,6 +5,7 @@ pub mod Branches
 pub mod Rings
 pub mod OuterInterleaver
 pub mod Delays
+pub mod Bits
 pub mod Serializer
 pub mod Protecting
 pub mod Interleaving

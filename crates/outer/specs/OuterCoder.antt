@@ -3,13 +3,13 @@ use Rattle.std.specs.Prelude.{ℕ, zero, suc, ◌+◌, Bool, true, false, cond, 
 use Rattle.reed.specs.Code.{remainder, stepped}
 use Rattle.reed.specs.Field.{power, value}
 use Rattle.reed.specs.Registers.{sixteen}
-use Rattle.reed.specs.declared.parity.Parity.{Parity}
 use Rattle.stage.specs.declared.Fault.{Fault}
 use Rattle.stage.specs.Machine.{gives, hears_from}
 use Rattle.stage.specs.Model.{Heard, Model, Sending, Receiving, clean, silence, hushed}
 use Rattle.holds.specs.Capped.{capped}
 use Rattle.stage.specs.Waiting.{listed}
 use Rattle.outer.specs.Arrived.{arrived_heard}
+use Rattle.outer.specs.declared.outer_coder.OuterCoder.{OuterCoder}
 
 -- Sending: how many bytes of the packet have gone, and the remainder that they leave.
 pub record Progress : Type 0 where
@@ -68,10 +68,10 @@ outer_coder = record {
 }
 
 -- Sending: the byte `out` waits, and after it the bytes of the parity `due`.
-abbrev pub coder_sending : ℕ → Parity → Option ℕ → List ℕ → Sending
-coder_sending sent parity out due = record {
-  waits = listed out ++ due;
-  future = coded (record { gone = sent; so_far = sixteen parity.register });
+abbrev pub coder_sending : OuterCoder → Sending
+coder_sending s = record {
+  waits = listed s.out ++ s.due;
+  future = coded (record { gone = s.sent; so_far = sixteen s.parity.register });
 }
 
 -- Receiving: a block is gathered, or the bytes of a packet wait from a place on, or the fault.
@@ -80,8 +80,11 @@ begun block (Ok None) = block
 begun packet (Ok (Some place)) = []
 begun block (Err f) = []
 
-abbrev pub coder_receiving : List ℕ → Result (Option ℕ) Fault → Receiving
-coder_receiving block arrived = record {
+abbrev pub coder_hearing : List ℕ → Result (Option ℕ) Fault → Receiving
+coder_hearing block arrived = record {
   waits = arrived_heard (λ place. drop place block) arrived;
   future = λ ys. hushed (arrived_heard (λ place. drop place block) arrived).fault (restored_from (begun block arrived) ys);
 }
+
+abbrev pub coder_receiving : OuterCoder → Receiving
+coder_receiving s = coder_hearing s.block.items s.arrived

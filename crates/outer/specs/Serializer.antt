@@ -1,18 +1,10 @@
 -- The serializer: each byte becomes eight bits, highest first.
-use Rattle.std.specs.Prelude.{ℕ, zero, suc, ◌+◌, ◌*◌, ◌/◌, ◌%◌, List, [], ◌∷◌, ◌++◌, Option}
+use Rattle.std.specs.Prelude.{ℕ, ◌+◌, ◌/◌, List, [], ◌∷◌}
 use Rattle.stage.specs.Blocks.{blockwise, block_sending, block_receiving}
 use Rattle.stage.specs.Model.{Model, Sending, Receiving}
 use Rattle.stage.specs.Waiting.{listed}
-
--- the last n bits of x, highest first
-abbrev pub last_bits : ℕ → ℕ → List ℕ
-last_bits zero x = []
-last_bits (suc n) x = last_bits n (x / 2) ++ (x % 2) ∷ []
-
--- the number that bits make after the number a
-unfoldable pub value_after : ℕ → List ℕ → ℕ
-value_after a [] = a
-value_after a (b ∷ bs) = value_after (a * 2 + b) bs
+use Rattle.outer.specs.Bits.{last_bits, value_after}
+use Rattle.outer.specs.declared.serializer.Serializer.{Serializer}
 
 -- one block: a byte, and eight bits
 abbrev pub bits_of : Unit {0} → List ℕ → List ℕ
@@ -33,9 +25,9 @@ abbrev pub serializer : Model
 serializer = blockwise 1 8 256 2 eighths same tt bits_of byte_of
 
 -- the sending side: bits of a byte wait
-abbrev pub serial_sending : List ℕ → Sending
-serial_sending bits = block_sending same bits_of 1 bits tt []
+abbrev pub serial_sending : Serializer → Sending
+serial_sending s = block_sending same bits_of 1 s.leaving tt []
 
 -- the receiving side: perhaps a byte waits, and bits are gathered
-abbrev pub serial_receiving : List ℕ → Option ℕ → Receiving
-serial_receiving bits back = block_receiving same byte_of 8 (listed back) tt bits
+abbrev pub serial_receiving : Serializer → Receiving
+serial_receiving s = block_receiving same byte_of 8 (listed s.back) tt s.arriving

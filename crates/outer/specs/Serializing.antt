@@ -7,7 +7,8 @@ use Rattle.std.proofs.ByRecursion.{All-push}
 use Rattle.stage.proofs.Blocks.{blocks_rule}
 use Rattle.stage.specs.Blocks.{Coding}
 use Rattle.stage.specs.Rule.{Rule, Under}
-use Rattle.outer.specs.Serializer.{last_bits, value_after, bits_of, byte_of, same, eighths, serializer}
+use Rattle.outer.specs.Bits.{last_bits, value_after}
+use Rattle.outer.specs.Serializer.{bits_of, byte_of, same, eighths, serializer}
 
 pub length_last_bits : (n x : ℕ) → length (last_bits n x) ≡ n
 length_last_bits zero x = refl

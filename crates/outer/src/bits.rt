@@ -1,6 +1,6 @@
 // The bits of a byte on their way out, highest first.
 ghost use Rattle.std.specs.Prelude.{◌≡◌, []};
-ghost use Rattle.outer.specs.Serializer.{last_bits};
+ghost use Rattle.outer.specs.Bits.{last_bits};
 ghost use Rattle.stage.specs.Model.{some, first, others, BelowSome};
 
 use std::marker::Model;
@@ -14,7 +14,7 @@ pub struct Bits {
 // Clauses see the bits that are left, the next one first.
 impl Model for Bits {
     ghost use Rattle.std.specs.Prelude.{ℕ, List, ◌≤◌};
-    ghost use Rattle.outer.specs.Serializer.{last_bits};
+    ghost use Rattle.outer.specs.Bits.{last_bits};
 
     ghost Value = { List ℕ };
 

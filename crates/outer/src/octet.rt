@@ -1,6 +1,6 @@
 // The bits of a byte as they come in, highest first.
 ghost use Rattle.std.specs.Prelude.{◌≡◌, ◌<◌, [], ◌∷◌, ◌++◌, length, Some, None};
-ghost use Rattle.outer.specs.Serializer.{value_after};
+ghost use Rattle.outer.specs.Bits.{value_after};
 
 use std::marker::Model;
 
@@ -13,7 +13,7 @@ pub struct Octet {
 // Clauses see the bits that have come, the first one first.
 impl Model for Octet {
     ghost use Rattle.std.specs.Prelude.{ℕ, List, ◌<◌, ◌^◌};
-    ghost use Rattle.outer.specs.Serializer.{last_bits};
+    ghost use Rattle.outer.specs.Bits.{last_bits};
 
     ghost Value = { List ℕ };
 

@@ -1,11 +1,6 @@
 // The outer coder as a stage (EN 300 744, clause 4.3.2): after every 188 bytes come the sixteen of their parity.
 // Input: bytes. Output: bytes, 204 for 188; receiving gives 188 for 204, or cause 2.
 ghost use Rattle.std.specs.Prelude.{◌≡◌, ℕ, ◌<◌, length, Some, None, Ok};
-ghost use Rattle.stage.specs.Model.{new_sending, new_receiving};
-ghost use Rattle.outer.specs.OuterCoder.{outer_coder, coder_sending, coder_receiving, passes, progressed, hears_block, gathered};
-ghost use Rattle.outer.specs.Protecting.{coder_rule};
-ghost use Rattle.stage.proofs.Machine.{gives_sends, hears_from_hears};
-ghost use Rattle.stage.proofs.Hearing.{hushed_hears};
 
 use crate::due::Due;
 use arrayvec::ArrayVec;
@@ -32,9 +27,12 @@ pub struct OuterCoder {
 }
 
 impl OuterCoder {
+    ghost use Rattle.stage.specs.Model.{new_sending, new_receiving};
+    ghost use Rattle.outer.specs.OuterCoder.{outer_coder, coder_sending, coder_receiving};
+
     pub fn new() -> OuterCoder
-        ensures sends { coder_sending result.sent result.parity result.out result.due ≡ new_sending outer_coder }
-        ensures hears { coder_receiving result.block.items result.arrived ≡ new_receiving outer_coder }
+        ensures sends { coder_sending result ≡ new_sending outer_coder }
+        ensures hears { coder_receiving result ≡ new_receiving outer_coder }
     {
         OuterCoder {
             parity: Parity::new(),
@@ -48,11 +46,16 @@ impl OuterCoder {
 }
 
 impl Stage for OuterCoder {
+    ghost use Rattle.outer.specs.OuterCoder.{outer_coder, coder_sending, coder_receiving, passes, progressed, hears_block, gathered};
+    ghost use Rattle.outer.specs.Protecting.{coder_rule};
+    ghost use Rattle.stage.proofs.Machine.{gives_sends, hears_from_hears};
+    ghost use Rattle.stage.proofs.Hearing.{hushed_hears};
+
     ghost model = { λ _. outer_coder };
 
-    ghost sending = { λ s. coder_sending s.sent s.parity s.out s.due };
+    ghost sending = { coder_sending };
 
-    ghost receiving = { λ s. coder_receiving s.block.items s.arrived };
+    ghost receiving = { coder_receiving };
 
     ghost rule = { λ s. coder_rule };
 

@@ -1,12 +1,6 @@
 // The outer interleaver as a stage (EN 300 744, clause 4.3.2): twelve branches with delays of 0, 204, .. 2244 bytes.
 // Input: bytes. Output: bytes, one for each; receiving drops the first 2244.
 ghost use Rattle.std.specs.Prelude.{◌≡◌, ◌≤◌};
-ghost use Rattle.stage.specs.Model.{new_sending, new_receiving};
-ghost use Rattle.outer.specs.OuterInterleaver.{outer_interleaver, interleaver_sending, interleaver_receiving};
-ghost use Rattle.outer.specs.Interleaving.{interleaver_rule};
-ghost use Rattle.stage.proofs.Machine.{gives_sends, hears_from_hears};
-ghost use Rattle.outer.specs.Branches.{sends_one, passing, hears_one, arriving_after};
-ghost use Rattle.stage.proofs.Hearing.{hushed_hears};
 
 use crate::bank::Bank;
 use refusal::Refusal;
@@ -33,9 +27,12 @@ pub struct OuterInterleaver {
 }
 
 impl OuterInterleaver {
+    ghost use Rattle.stage.specs.Model.{new_sending, new_receiving};
+    ghost use Rattle.outer.specs.OuterInterleaver.{outer_interleaver, interleaver_sending, interleaver_receiving};
+
     pub fn new() -> OuterInterleaver
-        ensures sends { interleaver_sending result.leaving result.out ≡ new_sending outer_interleaver }
-        ensures hears { interleaver_receiving result.arriving result.count result.arrived ≡ new_receiving outer_interleaver }
+        ensures sends { interleaver_sending result ≡ new_sending outer_interleaver }
+        ensures hears { interleaver_receiving result ≡ new_receiving outer_interleaver }
     {
         OuterInterleaver {
             leaving: Bank::new(SENDING),
@@ -48,11 +45,17 @@ impl OuterInterleaver {
 }
 
 impl Stage for OuterInterleaver {
+    ghost use Rattle.outer.specs.OuterInterleaver.{outer_interleaver, interleaver_sending, interleaver_receiving};
+    ghost use Rattle.outer.specs.Interleaving.{interleaver_rule};
+    ghost use Rattle.outer.specs.Branches.{sends_one, passing, hears_one, arriving_after};
+    ghost use Rattle.stage.proofs.Machine.{gives_sends, hears_from_hears};
+    ghost use Rattle.stage.proofs.Hearing.{hushed_hears};
+
     ghost model = { λ _. outer_interleaver };
 
-    ghost sending = { λ s. interleaver_sending s.leaving s.out };
+    ghost sending = { interleaver_sending };
 
-    ghost receiving = { λ s. interleaver_receiving s.arriving s.count s.arrived };
+    ghost receiving = { interleaver_receiving };
 
     ghost rule = { λ s. interleaver_rule };
 

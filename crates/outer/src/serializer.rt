@@ -22,8 +22,8 @@ pub struct Serializer {
 
 impl Serializer {
     pub fn new() -> Serializer
-        ensures sends { serial_sending result.leaving ≡ new_sending serializer_model }
-        ensures hears { serial_receiving result.arriving result.back ≡ new_receiving serializer_model }
+        ensures sends { serial_sending result ≡ new_sending serializer_model }
+        ensures hears { serial_receiving result ≡ new_receiving serializer_model }
     {
         Serializer {
             leaving: Bits::nothing(),
@@ -36,9 +36,9 @@ impl Serializer {
 impl Stage for Serializer {
     ghost model = { λ _. serializer_model };
 
-    ghost sending = { λ s. serial_sending s.leaving };
+    ghost sending = { serial_sending };
 
-    ghost receiving = { λ s. serial_receiving s.arriving s.back };
+    ghost receiving = { serial_receiving };
 
     ghost rule = { λ s. serializer_rule };
 

@@ -1,5 +1,5 @@
 use Rattle.std.proofs.Common.{ℕ, List, [], ◌∷◌, ◌++◌, length, Some, ap, ◌∙◌, arith}
-use Rattle.outer.specs.Serializer.{value_after}
+use Rattle.outer.specs.Bits.{value_after}
 use Rattle.outer.specs.Serializing.{length_last_bits, whole_byte}
 use Rattle.outer.proofs.octet.Octet.push.Goals as goal
 
