@@ -1,4 +1,3 @@
-pub mod Ringing
 pub mod Making
 pub mod Dues
 pub mod Arriving

@@ -2,8 +2,4 @@
 use Rattle.std.specs.Prelude.{ℕ, List, ◌++◌, take, drop}
 
 abbrev pub turned : List ℕ → ℕ → List ℕ
-turned xs place = drop place xs ++ take place xs
-
--- the bytes in use, from the oldest on
-unfoldable pub ring : List ℕ → ℕ → ℕ → List ℕ
-ring store depth place = turned (take depth store) place
+turned store place = drop place store ++ take place store

@@ -1,28 +1,28 @@
 // A branch of the outer interleaver (EN 300 744, clause 4.3.2): a delay line of fixed depth.
-// Input: a byte. Output: the byte that went in `depth` bytes before, 0 where there was none.
+// Input: a byte. Output: the byte that went in so many bytes before as the branch is deep, 0 where there was none.
 ghost use Rattle.std.specs.Prelude.{◌≡◌, ◌≤◌, [], ◌∷◌, ◌++◌, drop, replicate};
 ghost use Rattle.outer.specs.Branches.{oldest};
 
+use arrayvec::ArrayVec;
 use std::marker::Model;
 
-// The first `depth` bytes of the store are in use, and the oldest stands at `place`.
+// The oldest byte stands at `place`, where the store has one.
 #[derive(Drop)]
 pub struct Branch {
-    store: [u8; 187],
-    depth: usize,
+    store: ArrayVec<u8, 187>,
     place: usize,
 }
 
 // Clauses see the queue: the bytes that it holds, from the oldest on.
 impl Model for Branch {
-    ghost use Rattle.std.specs.Prelude.{ℕ, List, ◌<◌, ◌≤◌, max};
-    ghost use Rattle.outer.specs.Rings.{ring};
+    ghost use Rattle.std.specs.Prelude.{ℕ, List, ◌<◌, length, max};
+    ghost use Rattle.outer.specs.Rings.{turned};
 
     ghost Value = { List ℕ };
 
-    ghost view = { λ b. ring b.store b.depth b.place };
+    ghost view = { λ b. turned b.store.items b.place };
 
-    ghost invariant = { λ b. (b.depth ≤ 187) × (b.place < max b.depth 1) };
+    ghost invariant = { λ b. b.place < max (length b.store.items) 1 };
 }
 
 impl Branch {
@@ -31,11 +31,9 @@ impl Branch {
         requires { depth ≤ 187 }
         ensures { result ≡ replicate depth 0 }
     {
-        Branch {
-            store: [0; 187],
-            depth,
-            place: 0,
-        }
+        let mut store = ArrayVec::from([0; 187]);
+        store.truncate(depth);
+        Branch { store, place: 0 }
     }
 
     // A byte goes in, and the oldest one leaves.
@@ -43,13 +41,13 @@ impl Branch {
         ensures out { result ≡ oldest (self.old ++ byte ∷ []) }
         ensures left { self.new ≡ drop 1 (self.old ++ byte ∷ []) }
     {
-        if self.depth == 0 {
+        if self.store.is_empty() {
             return byte;
         }
         let place = self.place;
         let out = self.store[place];
         self.store[place] = byte;
-        self.place = if place + 1 == self.depth {
+        self.place = if place + 1 == self.store.len() {
             0
         } else {
             place + 1
