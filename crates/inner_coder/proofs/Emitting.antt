@@ -11,7 +11,6 @@ use Rattle.stage.specs.Rule.{Under}
 use Rattle.stage.proofs.Feeding.{fed-fed}
 use Rattle.stage.proofs.Machine.{gives_offered, gives_sends}
 use Rattle.stage.proofs.Passing.{gives_of, gives_fed, gives_then, offered-fed}
-use Rattle.inner_coder.specs.declared.convolution.Walk.{Walk}
 use Rattle.inner_coder.specs.declared.puncturing.Sent.{Sent}
 use Rattle.inner_coder.specs.declared.puncturing.Sent.TheVariants as sent
 use Rattle.inner_coder.specs.declared.puncturing.Left.{Left}
@@ -19,7 +18,7 @@ use denote.Enum.Bare.{sameb}
 use Rattle.inner_coder.specs.contracts.puncturing.Left.{the_type}
 use Rattle.inner_coder.specs.declared.puncturing.Left.TheVariants.{Nothing, Both, X, Y}
 use Rattle.inner_coder.specs.Puncturing.{sent_at}
-use Rattle.inner_coder.specs.Convolution.{shifted, emitted, sends_one, walked}
+use Rattle.inner_coder.specs.Convolution.{Walk, shifted, emitted, sends_one, walked}
 use Rattle.inner_coder.specs.Coder.{inner_code, idle_at, units_left, sent_of}
 use Rattle.inner_coder.specs.Coding.{emitted_under}
 

@@ -1,3 +1,2 @@
 pub mod Emitting
-pub mod Hearing
 pub mod Publishing

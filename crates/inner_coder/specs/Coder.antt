@@ -1,18 +1,19 @@
 -- The inner coder as a stage: its model for a rate and for a code that was read, and its sides as they are now.
-use Rattle.std.specs.Prelude.{ℕ, ◌/◌, Bool, true, false, List, [], ◌∷◌, Some, None, Ok, Err, Option, Result}
+use Rattle.std.specs.Prelude.{ℕ, Bool, List, [], Some, None, Ok, Err, Option, Result}
 use Rattle.refusal.specs.declared.Refusal.{Refusal}
 use Rattle.settings.specs.declared.rate.Rate.{Rate}
 use Rattle.stage.specs.declared.Fault.{Fault}
 use Rattle.stage.specs.Known.{unknown}
-use Rattle.stage.specs.Model.{Model, Sending, Receiving, hushed}
+use Rattle.stage.specs.Model.{Heard, Model, Sending, Receiving, clean, hushed}
+use Rattle.stage.specs.Waiting.{listed}
 use Rattle.holds.specs.Capped.{capped}
 use Rattle.inner_coder.specs.declared.coder.InnerCoder.{InnerCoder}
-use Rattle.inner_coder.specs.declared.convolution.Walk.{Walk}
 use Rattle.inner_coder.specs.declared.puncturing.Sent.{Sent}
 use Rattle.inner_coder.specs.declared.puncturing.Sent.TheVariants as sent
 use Rattle.inner_coder.specs.declared.puncturing.Left.{Left}
 use Rattle.inner_coder.specs.declared.puncturing.Left.TheVariants.{Nothing, Both, X, Y}
-use Rattle.inner_coder.specs.Convolution.{coded, decoded, start, start_hearing, emitted, disagrees}
+use Rattle.inner_coder.specs.Convolution.{Walk, coded, decoded, start, start_hearing, emitted}
+use Rattle.inner_coder.specs.Walks.{walk_of}
 
 abbrev pub inner_code : Rate → Model
 inner_code rate = record {
@@ -44,24 +45,23 @@ sent_of Both = Some sent.Both
 sent_of X = Some sent.X
 sent_of Y = Some sent.Y
 
+abbrev pub model_of : InnerCoder → Model
+model_of c = inner_code c.sending.rate
+
 abbrev pub sending_of : InnerCoder → Sending
-sending_of c = record { waits = units_left (sent_of c.waits) c.sending.register; future = coded c.rate c.sending }
+sending_of c = record { waits = units_left (sent_of c.waits) c.sending.register; future = coded c.sending.rate (walk_of c.sending) }
 
--- the last bit heard is the register's highest
-abbrev pub bit_left : Bool → ℕ → List ℕ
-bit_left true r = r / 64 ∷ []
-bit_left false r = []
+-- what has arrived: a bit that is not taken yet, nothing, or a fault
+abbrev pub arrival : Result (Option ℕ) Fault → Heard
+arrival (Ok bit) = clean (listed bit)
+arrival (Err fault) = record { units = []; fault = Some fault }
 
-abbrev pub fault_if : Bool → Option Fault
-fault_if true = Some disagrees
-fault_if false = None
-
--- a receiving side, by its walk, whether a second unit is to come, a bit waits, and it has failed
-abbrev pub hearing_side : Rate → Walk → Bool → Bool → Bool → Receiving
-hearing_side rate w second bit failed = record {
-  waits = record { units = bit_left bit w.register; fault = fault_if failed };
-  future = λ ys. hushed (fault_if failed) (decoded rate (record { walk = w; second = second }) ys);
+-- a receiving side, by its walk, whether a second unit is to come, and what has arrived
+abbrev pub hearing_side : Rate → Walk → Bool → Result (Option ℕ) Fault → Receiving
+hearing_side rate w second arrived = record {
+  waits = arrival arrived;
+  future = λ ys. hushed (arrival arrived).fault (decoded rate (record { walk = w; second = second }) ys);
 }
 
 abbrev pub receiving_of : InnerCoder → Receiving
-receiving_of c = hearing_side c.rate c.hearing c.second c.bit c.failed
+receiving_of c = hearing_side c.hearing.rate (walk_of c.hearing) c.second c.arrived

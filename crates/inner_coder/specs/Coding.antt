@@ -10,11 +10,10 @@ use Rattle.stage.specs.Rule.{Rule, Under, Begins, Numbered}
 use Rattle.stage.specs.Faultless.{no_fault}
 use Rattle.holds.proofs.Capped.{capped_stops, capped-most, capped_grows, capped_claims}
 use Rattle.stage.proofs.Machine.{gives_sends, hears_from_hears, hears_from_faults}
-use Rattle.inner_coder.specs.declared.convolution.Walk.{Walk}
 use Rattle.inner_coder.specs.declared.puncturing.Sent.{Sent}
 use Rattle.inner_coder.specs.declared.puncturing.Sent.TheVariants.{Both, X, Y}
 use Rattle.inner_coder.specs.Puncturing.{sent_at}
-use Rattle.inner_coder.specs.Convolution.{Hearing, y_of, shifted, emitted, coded, decoded, start, start_hearing, sends_one, walked, hears_one, hearing_after, hears_unit, agreement, differ, first_of, is_both}
+use Rattle.inner_coder.specs.Convolution.{Walk, Hearing, y_of, shifted, emitted, coded, decoded, start, start_hearing, sends_one, walked, hears_one, hearing_after, hears_unit, agreement, differ, first_of, is_both}
 use Rattle.inner_coder.specs.Coder.{inner_code}
 use Rattle.inner_coder.specs.Taps.{first_tells}
 

@@ -9,7 +9,6 @@ use Rattle.settings.specs.declared.rate.Rate.{Rate}
 use Rattle.stage.specs.declared.Fault.{Fault}
 use Rattle.stage.specs.Model.{Heard, clean, silence}
 use Rattle.stage.specs.Machine.{gives, hears_from}
-use Rattle.inner_coder.specs.declared.convolution.Walk.{Walk}
 use Rattle.inner_coder.specs.declared.puncturing.Sent.{Sent}
 use Rattle.inner_coder.specs.declared.puncturing.Sent.TheVariants.{Both, X, Y}
 use Rattle.inner_coder.specs.Puncturing.{period, sent_at, onward}
@@ -32,7 +31,11 @@ emitted Both r = x_of r ∷ y_of r ∷ []
 emitted X r = x_of r ∷ []
 emitted Y r = y_of r ∷ []
 
--- Sending.
+-- Sending: the place in the puncturing period, and the register.
+pub record Walk : Type 0 where
+  pub phase : ℕ
+  pub register : ℕ
+
 abbrev pub start : Walk
 start = record { phase = 0; register = 0 }
 

@@ -1,5 +1,6 @@
 pub mod Puncturing
 pub mod Convolution
+pub mod Walks
 pub mod Coder
 pub mod Published
 pub mod Coding

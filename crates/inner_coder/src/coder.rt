@@ -1,27 +1,23 @@
 // The inner coder's two sides.
-ghost use Rattle.std.specs.Prelude.{◌<◌};
-ghost use Rattle.inner_coder.specs.Puncturing.{period};
+ghost use Rattle.std.specs.Prelude.{◌≡◌};
+ghost use Rattle.stage.specs.Model.{BelowOk};
 
 use super::convolution::Walk;
 use super::puncturing::Left;
-use settings::Rate;
+use stage::Fault;
 
 pub mod rule;
 
 #[derive(Drop)]
 pub struct InnerCoder {
-    rate: Rate,
     sending: Walk,
     // What of the last bit is not taken yet.
     waits: Left,
     hearing: Walk,
     // The second unit of the last bit is still to come.
     second: bool,
-    // The last bit heard, the register's highest, is not taken yet.
-    bit: bool,
-    failed: bool,
-    ghost sending_within: { sending.phase < period rate },
-    ghost sending_seven: { sending.register < 128 },
-    ghost hearing_within: { hearing.phase < period rate },
-    ghost hearing_seven: { hearing.register < 128 },
+    // A bit heard that is not taken yet, or the fault.
+    arrived: Result<Option<u8>, Fault>,
+    ghost one_rate: { hearing.rate ≡ sending.rate },
+    ghost small: { ∥ BelowOk 2 arrived ∥₁ },
 }

@@ -1,15 +1,14 @@
 // Codes bits straight into an output, many at a time.
-ghost use Rattle.std.specs.Prelude.{◌≡◌, ◌<◌, ◌≤◌, ◌++◌, length, take, drop};
+ghost use Rattle.std.specs.Prelude.{◌≡◌, ◌≤◌, ◌++◌, length, take, drop};
 ghost use Rattle.stage.specs.Model.{fed};
 ghost use Rattle.stage.specs.Passing.{Gives};
 ghost use Rattle.stage.specs.Rule.{Under};
 ghost use Rattle.inner_coder.specs.Coder.{inner_code, idle_at};
 ghost use Rattle.inner_coder.specs.Convolution.{emitted};
-ghost use Rattle.inner_coder.specs.Puncturing.{period};
+ghost use Rattle.inner_coder.specs.Walks.{walk_of};
 
 use super::convolution::{Walk, output_x, output_y};
-use super::puncturing::{Sent, pattern};
-use settings::Rate;
+use super::puncturing::Sent;
 
 // How many bits were coded, and how many units they became.
 #[derive(Clone, Copy)]
@@ -42,22 +41,19 @@ fn emit(sent: Sent, register: u8, output: &mut [u8]) -> usize
 }
 
 // Codes bits from the front of the input, while there is room for both units of one. A unit that is no bit ends it.
-pub(crate) fn encode(walk: &mut Walk, rate: Rate, input: &[u8], output: &mut [u8]) -> Coded
-    requires { (walk.old.phase < period rate) × (walk.old.register < 128) }
-    ensures within { walk.new.phase < period rate }
-    ensures seven { walk.new.register < 128 }
+pub(crate) fn encode(walk: &mut Walk, input: &[u8], output: &mut [u8]) -> Coded
+    ensures rate { walk.new.rate ≡ walk.old.rate }
     ensures used { result.used ≤ length input.now }
     ensures fits { Under 2 (take result.used input.now) }
-    ensures gives { Gives (inner_code rate) (fed (idle_at rate walk.old) (take result.used input.now)) (idle_at rate walk.new) output.old output.new result.made }
+    ensures gives { Gives (inner_code walk.old.rate) (fed (idle_at walk.old.rate (walk_of walk.old)) (take result.used input.now)) (idle_at walk.old.rate (walk_of walk.new)) output.old output.new result.made }
 {
-    let pattern = pattern(rate);
     // A copy, which need not be written to memory at each bit.
     let mut at = *walk;
     let mut used = 0;
     let mut made = 0;
     while used < input.len() && made + 2 <= output.len() && input[used] < 2 {
-        let sent = pattern[at.phase];
-        at.shift(pattern.len(), input[used]);
+        let sent = at.sent();
+        at.shift(input[used]);
         made += emit(sent, at.register, &mut output[made..]);
         used += 1;
     }

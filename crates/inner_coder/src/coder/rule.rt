@@ -3,7 +3,7 @@ ghost use Rattle.std.specs.Prelude.{◌≡◌};
 ghost use Rattle.settings.specs.Rate.{rate_read};
 ghost use Rattle.stage.specs.Known.{known_model, known_sending, known_receiving};
 ghost use Rattle.stage.specs.Model.{new_sending, new_receiving};
-ghost use Rattle.inner_coder.specs.Coder.{inner_code, inner_coder, sending_of, receiving_of, fault_if};
+ghost use Rattle.inner_coder.specs.Coder.{inner_code, inner_coder, model_of, sending_of, receiving_of, arrival};
 ghost use Rattle.inner_coder.specs.Coding.{coder_rule};
 ghost use Rattle.stage.proofs.Machine.{gives_sends, hears_from_hears};
 ghost use Rattle.inner_coder.specs.Convolution.{sends_one, walked, hears_one, hearing_after};
@@ -11,7 +11,7 @@ ghost use Rattle.stage.proofs.Hearing.{hushed_hears};
 
 use super::super::convolution::{Walk, first_unit, output_x, output_y};
 use super::super::encoding::encode;
-use super::super::puncturing::{Left, Sent, pattern};
+use super::super::puncturing::{Left, Sent};
 use super::InnerCoder;
 use refusal::Refusal;
 use settings::Rate;
@@ -21,7 +21,7 @@ use stage::{Fault, Passed, Stage};
 impl InnerCoder {
     // For the code of a rate.
     pub fn new(rate: u8) -> Known<InnerCoder>
-        ensures model { known_model (λ c. inner_code c.rate) result ≡ inner_coder (rate_read rate) }
+        ensures model { known_model model_of result ≡ inner_coder (rate_read rate) }
         ensures sends { known_sending sending_of result ≡ new_sending (inner_coder (rate_read rate)) }
         ensures hears { known_receiving receiving_of result ≡ new_receiving (inner_coder (rate_read rate)) }
     {
@@ -32,34 +32,32 @@ impl InnerCoder {
     }
 
     pub fn of(rate: Rate) -> InnerCoder
-        ensures model { result.rate ≡ rate }
+        ensures model { model_of result ≡ inner_code rate }
         ensures sends { sending_of result ≡ new_sending (inner_code rate) }
         ensures hears { receiving_of result ≡ new_receiving (inner_code rate) }
     {
         InnerCoder {
-            rate,
-            sending: Walk::new(),
+            sending: Walk::new(rate),
             waits: Left::Nothing,
-            hearing: Walk::new(),
+            hearing: Walk::new(rate),
             second: false,
-            bit: false,
-            failed: false,
+            arrived: Ok(None),
         }
     }
 }
 
 impl Stage for InnerCoder {
-    ghost model = { λ c. inner_code c.rate };
+    ghost model = { model_of };
 
     ghost sending = { sending_of };
 
     ghost receiving = { receiving_of };
 
-    ghost rule = { λ s. coder_rule s.rate };
+    ghost rule = { λ s. coder_rule s.sending.rate };
 
-    ghost sends = { λ s. gives_sends (sends_one s.rate) (walked s.rate) _ };
+    ghost sends = { λ s. gives_sends (sends_one s.sending.rate) (walked s.sending.rate) _ };
 
-    ghost hears = { λ s. hushed_hears (fault_if s.failed) (hears_from_hears (hears_one s.rate) (hearing_after s.rate) _) };
+    ghost hears = { λ s. hushed_hears (arrival s.arrived).fault (hears_from_hears (hears_one s.hearing.rate) (hearing_after s.hearing.rate) _) };
 
     fn taken(&self) -> u16 {
         2
@@ -82,11 +80,11 @@ impl Stage for InnerCoder {
     }
 
     fn receive_waits(&mut self) -> bool {
-        self.bit || self.failed
+        self.arrived != Ok(None)
     }
 
     fn renew(&mut self) {
-        *self = InnerCoder::of(self.rate);
+        *self = InnerCoder::of(self.sending.rate);
     }
 
     fn send_offer(&mut self, unit: u8) -> Result<(), Refusal> {
@@ -96,9 +94,8 @@ impl Stage for InnerCoder {
         if self.waits != Left::Nothing {
             return Err(Refusal::SomethingWaits);
         }
-        let pattern = pattern(self.rate);
-        self.waits = Left::all(pattern[self.sending.phase]);
-        self.sending.shift(pattern.len(), unit);
+        self.waits = Left::all(self.sending.sent());
+        self.sending.shift(unit);
         Ok(())
     }
 
@@ -123,7 +120,7 @@ impl Stage for InnerCoder {
                 waits: true,
             };
         }
-        let coded = encode(&mut self.sending, self.rate, input, &mut output[left..]);
+        let coded = encode(&mut self.sending, input, &mut output[left..]);
         let used = coded.used;
         let made = left + coded.made;
         let rest = self.send_units(&input[used..], &mut output[made..]);
@@ -138,32 +135,29 @@ impl Stage for InnerCoder {
         if unit >= 2 {
             return Err(Refusal::UnitTooLarge);
         }
-        if self.bit || self.failed {
+        if self.arrived != Ok(None) {
             return Err(Refusal::SomethingWaits);
         }
         if self.second {
             self.second = false;
-            self.failed = unit != output_y(self.hearing.register);
+            if unit != output_y(self.hearing.register) {
+                self.arrived = Err(Fault { stage: 1, cause: 4 });
+            }
             return Ok(());
         }
-        let pattern = pattern(self.rate);
-        let sent = pattern[self.hearing.phase];
+        let sent = self.hearing.sent();
         // Both outputs tap the input: a one turns what a zero would have sent.
         let zero = first_unit(sent, self.hearing.register / 2);
-        self.hearing.shift(pattern.len(), u8::from(unit != zero));
+        let bit = u8::from(unit != zero);
+        self.hearing.shift(bit);
         self.second = sent == Sent::Both;
-        self.bit = true;
+        self.arrived = Ok(Some(bit));
         Ok(())
     }
 
     fn receive_take(&mut self) -> Result<Option<u8>, Fault> {
-        if self.bit {
-            self.bit = false;
-            return Ok(Some(self.hearing.register / 64));
-        }
-        if self.failed {
-            return Err(Fault { stage: 1, cause: 4 });
-        }
-        Ok(None)
+        let unit = self.arrived?;
+        self.arrived = Ok(None);
+        Ok(unit)
     }
 }
