@@ -3,7 +3,7 @@ use Rattle.std.specs.Prelude.{ℕ, Bool, List, [], Some, None, Ok, Err, Option, 
 use Rattle.refusal.specs.declared.Refusal.{Refusal}
 use Rattle.settings.specs.declared.rate.Rate.{Rate}
 use Rattle.stage.specs.declared.Fault.{Fault}
-use Rattle.stage.specs.Known.{unknown}
+use Rattle.stage.specs.Optional.{unknown}
 use Rattle.stage.specs.Model.{Heard, Model, Sending, Receiving, clean, hushed}
 use Rattle.stage.specs.Waiting.{listed}
 use Rattle.holds.specs.Capped.{capped}

@@ -1,7 +1,7 @@
 // The inner coder keeps the stage rule: each bit is back with its first unit, and a second one that disagrees is cause 4.
 ghost use Rattle.std.specs.Prelude.{◌≡◌};
 ghost use Rattle.settings.specs.Rate.{rate_read};
-ghost use Rattle.stage.specs.Known.{known_model, known_sending, known_receiving};
+ghost use Rattle.stage.specs.Optional.{known_model, known_sending, known_receiving};
 ghost use Rattle.stage.specs.Model.{new_sending, new_receiving};
 ghost use Rattle.inner_coder.specs.Coder.{inner_code, inner_coder, model_of, sending_of, receiving_of, arrival};
 ghost use Rattle.inner_coder.specs.Coding.{coder_rule};
@@ -15,20 +15,17 @@ use super::super::puncturing::{Left, Sent};
 use super::InnerCoder;
 use refusal::Refusal;
 use settings::Rate;
-use stage::known::Known;
 use stage::{Fault, Passed, Stage};
 
 impl InnerCoder {
     // For the code of a rate.
-    pub fn new(rate: u8) -> Known<InnerCoder>
+    pub fn new(rate: u8) -> Option<InnerCoder>
         ensures model { known_model model_of result ≡ inner_coder (rate_read rate) }
         ensures sends { known_sending sending_of result ≡ new_sending (inner_coder (rate_read rate)) }
         ensures hears { known_receiving receiving_of result ≡ new_receiving (inner_coder (rate_read rate)) }
     {
-        match Rate::read(rate) {
-            Ok(rate) => Known::Code(InnerCoder::of(rate)),
-            Err(_) => Known::Unknown,
-        }
+        let rate = Rate::try_from(rate).ok()?;
+        Some(InnerCoder::of(rate))
     }
 
     pub fn of(rate: Rate) -> InnerCoder
