@@ -7,12 +7,13 @@ ghost use Rattle.inner_coder.specs.Coder.{inner_code, idle_at};
 ghost use Rattle.inner_coder.specs.Convolution.{emitted};
 ghost use Rattle.inner_coder.specs.Walks.{walk_of};
 
-use super::convolution::{Walk, output_x, output_y};
+use super::convolution::{Walk, first_unit, output_y};
 use super::puncturing::Sent;
 
-// How many bits were coded, and how many units they became.
+// The walk behind the bits that were coded, how many they were, and how many units they became.
 #[derive(Clone, Copy)]
 pub(crate) struct Coded {
+    pub(crate) walk: Walk,
     pub(crate) used: usize,
     pub(crate) made: usize,
 }
@@ -23,40 +24,33 @@ fn emit(sent: Sent, register: u8, output: &mut [u8]) -> usize
     ensures count { result ≡ length (emitted sent register) }
     ensures written { output.new ≡ emitted sent register ++ drop result output.old }
 {
-    match sent {
-        Sent::Both => {
-            output[0] = output_x(register);
-            output[1] = output_y(register);
-            2
-        }
-        Sent::X => {
-            output[0] = output_x(register);
-            1
-        }
-        Sent::Y => {
-            output[0] = output_y(register);
-            1
-        }
+    output[0] = first_unit(sent, register);
+    if sent != Sent::Both {
+        return 1;
     }
+    output[1] = output_y(register);
+    2
 }
 
 // Codes bits from the front of the input, while there is room for both units of one. A unit that is no bit ends it.
-pub(crate) fn encode(walk: &mut Walk, input: &[u8], output: &mut [u8]) -> Coded
-    ensures rate { walk.new.rate ≡ walk.old.rate }
+pub(crate) fn encode(mut walk: Walk, input: &[u8], output: &mut [u8]) -> Coded
+    ensures rate { result.walk.rate ≡ walk.rate }
     ensures used { result.used ≤ length input.now }
     ensures fits { Under 2 (take result.used input.now) }
-    ensures gives { Gives (inner_code walk.old.rate) (fed (idle_at walk.old.rate (walk_of walk.old)) (take result.used input.now)) (idle_at walk.old.rate (walk_of walk.new)) output.old output.new result.made }
+    ensures gives { Gives (inner_code walk.rate) (fed (idle_at walk.rate (walk_of walk)) (take result.used input.now)) (idle_at walk.rate (walk_of result.walk)) output.old output.new result.made }
 {
-    // A copy, which need not be written to memory at each bit.
-    let mut at = *walk;
-    let mut used = 0;
     let mut made = 0;
-    while used < input.len() && made + 2 <= output.len() && input[used] < 2 {
-        let sent = at.sent();
-        at.shift(input[used]);
-        made += emit(sent, at.register, &mut output[made..]);
-        used += 1;
+    for (used, bit) in input.iter().enumerate() {
+        if *bit >= 2 || output.len() < made + 2 {
+            return Coded { walk, used, made };
+        }
+        let sent = walk.sent();
+        walk.shift(*bit);
+        made += emit(sent, walk.register, &mut output[made..]);
     }
-    *walk = at;
-    Coded { used, made }
+    Coded {
+        walk,
+        used: input.len(),
+        made,
+    }
 }

@@ -1,3 +1,4 @@
 pub mod Stores
 pub mod Gathered
+pub mod Read
 pub mod SymbolSides

@@ -4,7 +4,7 @@ use Rattle.refusal.specs.declared.Refusal.{Refusal}
 use Rattle.settings.specs.declared.constellation.Constellation.{Constellation}
 use Rattle.settings.specs.Constellation.{word_bits}
 use Rattle.stage.specs.Blocks.{blockwise, block_sending, block_receiving}
-use Rattle.stage.specs.Known.{unknown}
+use Rattle.stage.specs.Optional.{unknown}
 use Rattle.stage.specs.Model.{Model, Sending, Receiving}
 use Rattle.inner_interleaver.specs.declared.bit_interleaver.BitInterleaver.{BitInterleaver}
 use Rattle.inner_interleaver.specs.Words.{words_of, bits_of}

@@ -1,6 +1,5 @@
 pub mod Words
 pub mod BitInterleaver
-pub mod Sides
 pub mod SymbolInterleaver
 pub mod Published
 pub mod BitBlocks

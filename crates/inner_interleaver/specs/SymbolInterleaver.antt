@@ -1,5 +1,5 @@
 -- The symbol interleaver as a stage of blocks: its model for a mode and a constellation and for codes that were read, and its sides as they are now.
-use Rattle.std.specs.Prelude.{ℕ, ◌+◌, ◌-◌, ◌*◌, ◌^◌, List, take, drop, Ok, Err, Result}
+use Rattle.std.specs.Prelude.{ℕ, ◌+◌, ◌-◌, ◌*◌, ◌^◌, List, [], take, drop, Ok, Err, Result}
 use Rattle.address.specs.Address.{addresses_of}
 use Rattle.permute.specs.declared.parity.Parity.{Parity}
 use Rattle.permute.specs.declared.parity.Parity.TheVariants.{Even}
@@ -11,7 +11,7 @@ use Rattle.settings.specs.declared.mode.Mode.{Mode}
 use Rattle.settings.specs.Constellation.{word_bits}
 use Rattle.settings.specs.Mode.{symbol_cells}
 use Rattle.stage.specs.Blocks.{blockwise, block_sending}
-use Rattle.stage.specs.Known.{unknown}
+use Rattle.stage.specs.Optional.{unknown}
 use Rattle.stage.specs.Model.{Model, Sending, Receiving, heard_of}
 use Rattle.inner_interleaver.specs.declared.side.Side.{Side}
 use Rattle.inner_interleaver.specs.declared.symbol_interleaver.SymbolInterleaver.{SymbolInterleaver}
@@ -36,15 +36,19 @@ symbol_interleaver (Ok m) (Ok c) = symbol_interleaving m c
 symbol_interleaver (Ok m) (Err refusal) = unknown
 symbol_interleaver (Err refusal) c = unknown
 
--- a side by its code, its symbols' words n, and the parity of the symbol begun: the first `have` words are gathered, or the moved ones wait from the place `at` on
-abbrev pub side_of : (Parity → List ℕ → List ℕ) → ℕ → Parity → Side → Sending
-side_of code n p s = block_sending opposite code n (drop s.at (take n s.moved)) p (take s.have s.words)
+-- a side in which nothing is gathered and nothing waits
+abbrev pub idle : Mode → Parity → Sending
+idle m p = block_sending opposite (encode m) (symbol_cells m) [] p []
+
+-- a side moves symbols by its parity in turn: the first `have` words are gathered, or the moved ones wait from the place `at` on
+abbrev pub side_of : Side → Sending
+side_of s = block_sending opposite (encode s.mode) (symbol_cells s.mode) (drop s.at (take (symbol_cells s.mode) s.moved)) s.parity (take s.have s.words)
 
 abbrev pub model_of : SymbolInterleaver → Model
-model_of s = symbol_interleaving s.addresses.mode s.constellation
+model_of s = symbol_interleaving s.out.mode s.out.constellation
 
 abbrev pub sending_of : SymbolInterleaver → Sending
-sending_of s = side_of (encode s.addresses.mode) (symbol_cells s.addresses.mode) s.out.parity s.out
+sending_of s = side_of s.out
 
 abbrev pub receiving_of : SymbolInterleaver → Receiving
-receiving_of s = heard_of (side_of (decode s.addresses.mode) (symbol_cells s.addresses.mode) (opposite s.back.parity) s.back)
+receiving_of s = heard_of (side_of s.back)

@@ -1,5 +1,5 @@
 // The bit interleaver's two sides: each gathers a block, and works out what waits of it unit by unit.
-ghost use Rattle.std.specs.Prelude.{ℕ, ◌*◌, ◌<◌, slice_index};
+ghost use Rattle.std.specs.Prelude.{ℕ, ◌*◌, ◌<◌, ◌≤◌, slice_index};
 ghost use Rattle.settings.specs.Constellation.{word_bits};
 
 use settings::Constellation;
@@ -21,4 +21,5 @@ pub struct BitInterleaver {
     ghost small: { (k : ℕ) → slice_index bits k < 2 },
     ghost short: { have < 126 * word_bits constellation },
     ghost few: { got < 126 },
+    ghost inside: { at ≤ 126 },
 }

@@ -8,9 +8,5 @@ use settings::Constellation;
 pub(crate) fn limit(constellation: Constellation) -> u16
     ensures { result ≡ 2 ^ word_bits constellation }
 {
-    match constellation {
-        Constellation::Qpsk => 4,
-        Constellation::Qam16 => 16,
-        Constellation::Qam64 => 64,
-    }
+    1 << constellation.word_bits()
 }

@@ -1,16 +1,22 @@
 // One side of the symbol interleaver: it gathers the words of a symbol, and gives them in their new order.
-ghost use Rattle.std.specs.Prelude.{◌≡◌, ℕ, ◌<◌, ◌≤◌, ◌++◌, drop, nat_lt, slice_index};
+ghost use Rattle.std.specs.Prelude.{◌≡◌, ℕ, ◌+◌, ◌^◌, ◌<◌, ◌++◌, drop, nat_lt, slice_index};
 ghost use Rattle.address.specs.Address.{addresses_of};
 ghost use Rattle.permute.specs.Parity.{opposite};
 ghost use Rattle.permute.specs.Permuted.{permuted};
+ghost use Rattle.settings.specs.Constellation.{word_bits};
 ghost use Rattle.settings.specs.Mode.{symbol_cells};
-ghost use Rattle.inner_interleaver.specs.Sides.{Roomy, renewed, put_in, next_word, advanced};
+ghost use Rattle.stage.specs.Model.{answer, offered, some, first, sent, BelowSome};
 
+use super::limits::limit;
 use address::Addresses;
 use permute::{Parity, permute};
+use refusal::Refusal;
+use settings::{Constellation, Mode};
 
 #[derive(Drop)]
 pub struct Side {
+    mode: Mode,
+    constellation: Constellation,
     // The first `have` words of a symbol are gathered, or the moved words of a whole one wait from the place `at` on.
     words: [u8; 6048],
     have: usize,
@@ -18,6 +24,10 @@ pub struct Side {
     at: usize,
     // How the symbol will be moved: an even symbol that is heard moves as an odd one that is sent.
     parity: Parity,
+    ghost short: { have < symbol_cells mode },
+    // All that is held are words of v bits.
+    ghost gathered: { (k : ℕ) → slice_index words k < 2 ^ word_bits constellation },
+    ghost waiting: { (k : ℕ) → slice_index moved k < 2 ^ word_bits constellation },
 }
 
 fn reorder(addresses: &Addresses, parity: Parity, words: &[u8; 6048], moved: &mut [u8; 6048])
@@ -28,12 +38,16 @@ fn reorder(addresses: &Addresses, parity: Parity, words: &[u8; 6048], moved: &mu
 }
 
 impl Side {
-    pub(crate) fn new(parity: Parity) -> Side
-        ensures side { result ≡ renewed parity result }
-        ensures words { (k : ℕ) → slice_index result.words k ≡ 0 }
-        ensures moved { (k : ℕ) → slice_index result.moved k ≡ 0 }
+    ghost use Rattle.inner_interleaver.specs.SymbolInterleaver.{idle, side_of};
+
+    pub(crate) fn new(mode: Mode, constellation: Constellation, parity: Parity) -> Side
+        ensures mode { result.mode ≡ mode }
+        ensures constellation { result.constellation ≡ constellation }
+        ensures side { side_of result ≡ idle mode parity }
     {
         Side {
+            mode,
+            constellation,
             words: [0; 6048],
             have: 0,
             moved: [0; 6048],
@@ -43,26 +57,44 @@ impl Side {
     }
 
     pub(crate) fn renew(&mut self, parity: Parity)
-        ensures { self.new ≡ renewed parity self.old }
+        ensures mode { self.new.mode ≡ self.old.mode }
+        ensures constellation { self.new.constellation ≡ self.old.constellation }
+        ensures side { side_of self.new ≡ idle self.old.mode parity }
     {
         self.have = 0;
         self.at = 6048;
         self.parity = parity;
     }
 
-    // Does a word of the last symbol, of n words, wait?
-    pub(crate) fn waits(&self, n: usize) -> bool
-        ensures answers { result ≡ nat_lt self.now.at n }
-        ensures roomy { Roomy self.now }
+    // How many words of v bits there are.
+    pub(crate) fn limit(&self) -> u16
+        ensures { result ≡ 2 ^ word_bits self.now.constellation }
     {
-        self.at < n
+        limit(self.constellation)
+    }
+
+    // N: the words of a symbol.
+    pub(crate) fn symbol(&self) -> usize
+        ensures { result ≡ symbol_cells self.now.mode }
+    {
+        self.mode.symbol_cells() as usize
+    }
+
+    // Does a word of the last symbol wait?
+    pub(crate) fn waits(&self) -> bool
+        ensures place { result ≡ nat_lt self.now.at (symbol_cells self.now.mode) }
+        ensures answers { result ≡ some (side_of self.now).waits }
+    {
+        self.at < self.symbol()
     }
 
     // The symbol is whole: its moved words wait, and the next one has the other parity.
     fn turn_over(&mut self, addresses: &Addresses)
-        ensures words { self.new.words ≡ self.old.words }
+        requires { addresses.now.mode ≡ self.old.mode }
+        ensures mode { self.new.mode ≡ self.old.mode }
+        ensures constellation { self.new.constellation ≡ self.old.constellation }
         ensures have { self.new.have ≡ 0 }
-        ensures moved { self.new.moved ≡ permuted self.old.parity (addresses_of addresses.now.mode) 0 self.old.words ++ drop (symbol_cells addresses.now.mode) self.old.moved }
+        ensures moved { self.new.moved ≡ permuted self.old.parity (addresses_of self.old.mode) 0 self.old.words ++ drop (symbol_cells self.old.mode) self.old.moved }
         ensures at { self.new.at ≡ 0 }
         ensures parity { self.new.parity ≡ opposite self.old.parity }
     {
@@ -72,26 +104,36 @@ impl Side {
         self.parity = self.parity.other();
     }
 
-    // The next word, where nothing waits.
-    pub(crate) fn put(&mut self, addresses: &Addresses, unit: u8)
-        requires { self.old.have < symbol_cells addresses.now.mode }
-        ensures { self.new ≡ put_in addresses.now.mode self.old unit }
+    pub(crate) fn offer(&mut self, addresses: &Addresses, unit: u8) -> Result<(), Refusal>
+        requires { addresses.now.mode ≡ self.old.mode }
+        ensures mode { self.new.mode ≡ self.old.mode }
+        ensures constellation { self.new.constellation ≡ self.old.constellation }
+        ensures answers { result ≡ answer (nat_lt unit (2 ^ word_bits self.old.constellation)) (some (side_of self.old).waits) }
+        ensures side { side_of self.new ≡ offered (nat_lt unit (2 ^ word_bits self.old.constellation)) (some (side_of self.old).waits) (side_of self.old) unit }
     {
+        if u16::from(unit) >= self.limit() {
+            return Err(Refusal::UnitTooLarge);
+        }
+        if self.waits() {
+            return Err(Refusal::SomethingWaits);
+        }
         self.words[self.have] = unit;
-        if self.have + 1 < addresses.list().len() {
+        if self.have + 1 < self.symbol() {
             self.have += 1;
         } else {
             self.turn_over(addresses);
         }
+        Ok(())
     }
 
-    pub(crate) fn take(&mut self, n: usize) -> Option<u8>
-        requires { n ≤ 6048 }
-        ensures answers { result ≡ next_word n self.old }
-        ensures side { self.new ≡ advanced n self.old }
-        ensures roomy { Roomy self.old }
+    pub(crate) fn take(&mut self) -> Option<u8>
+        ensures mode { self.new.mode ≡ self.old.mode }
+        ensures constellation { self.new.constellation ≡ self.old.constellation }
+        ensures answers { result ≡ first (side_of self.old).waits }
+        ensures below { BelowSome (2 ^ word_bits self.old.constellation) result }
+        ensures side { side_of self.new ≡ sent (side_of self.old) }
     {
-        if self.at >= n {
+        if !self.waits() {
             return None;
         }
         let unit = self.moved[self.at];

@@ -13,11 +13,7 @@ pub const WORDS: usize = 126;
 pub(crate) fn block(constellation: Constellation) -> usize
     ensures { result ≡ 126 * word_bits constellation }
 {
-    match constellation {
-        Constellation::Qpsk => 252,
-        Constellation::Qam16 => 504,
-        Constellation::Qam64 => 756,
-    }
+    WORDS * constellation.word_bits() as usize
 }
 
 // A stream, and how far ahead its interleaved bits come from.

@@ -117,7 +117,8 @@ impl Stage for InnerCoder {
                 waits: true,
             };
         }
-        let coded = encode(&mut self.sending, input, &mut output[left..]);
+        let coded = encode(self.sending, input, &mut output[left..]);
+        self.sending = coded.walk;
         let used = coded.used;
         let made = left + coded.made;
         let rest = self.send_units(&input[used..], &mut output[made..]);

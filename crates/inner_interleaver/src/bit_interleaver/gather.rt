@@ -16,12 +16,13 @@ fn copy_bits(input: &[u8], room: &mut [u8]) -> usize
     ensures copied { room.new ≡ take result input.now ++ drop result room.old }
     ensures used_up { result < length room.old → fitting 2 (drop result input.now) ≡ [] }
 {
-    let mut count = 0;
-    while count < room.len() && count < input.len() && input[count] < 2 {
-        room[count] = input[count];
-        count += 1;
+    for (count, &unit) in input.iter().enumerate() {
+        if room.len() <= count || unit >= 2 {
+            return count;
+        }
+        room[count] = unit;
     }
-    count
+    input.len()
 }
 
 impl BitInterleaver {

@@ -2,7 +2,7 @@
 // Input: bits, in blocks of 126 × v. Output: 126 words of v bits for each block.
 ghost use Rattle.std.specs.Prelude.{◌≡◌, ◌*◌};
 ghost use Rattle.settings.specs.Constellation.{constellation_read, word_bits};
-ghost use Rattle.stage.specs.Known.{known_model, known_sending, known_receiving};
+ghost use Rattle.stage.specs.Optional.{known_model, known_sending, known_receiving};
 ghost use Rattle.stage.specs.Model.{new_sending, new_receiving};
 ghost use Rattle.inner_interleaver.specs.BitInterleaver.{bit_interleaving, bit_interleaver, sending_of, receiving_of, same, encode, decode};
 ghost use Rattle.inner_interleaver.specs.BitBlocks.{bit_rule};
@@ -14,7 +14,6 @@ use super::BitInterleaver;
 use holds::stopped;
 use refusal::Refusal;
 use settings::Constellation;
-use stage::known::Known;
 use stage::{Fault, Passed, Stage};
 
 // The most bits that a block can have.
@@ -22,15 +21,13 @@ const BITS: usize = 756;
 
 impl BitInterleaver {
     // For the code of a constellation.
-    pub fn new(constellation: u8) -> Known<BitInterleaver>
+    pub fn new(constellation: u8) -> Option<BitInterleaver>
         ensures model { known_model (λ s. bit_interleaving s.constellation) result ≡ bit_interleaver (constellation_read constellation) }
         ensures sends { known_sending sending_of result ≡ new_sending (bit_interleaver (constellation_read constellation)) }
         ensures hears { known_receiving receiving_of result ≡ new_receiving (bit_interleaver (constellation_read constellation)) }
     {
-        match Constellation::read(constellation) {
-            Ok(constellation) => Known::Code(BitInterleaver::of(constellation)),
-            Err(_) => Known::Unknown,
-        }
+        let constellation = Constellation::try_from(constellation).ok()?;
+        Some(BitInterleaver::of(constellation))
     }
 
     pub fn of(constellation: Constellation) -> BitInterleaver
@@ -121,16 +118,13 @@ impl Stage for BitInterleaver {
         Some(unit)
     }
 
-    // The place is a local, so that no word has to store it.
     fn send_drain(&mut self, output: &mut [u8]) -> usize {
-        let mut at = self.at;
-        let mut made = 0;
-        while made < output.len() && at < WORDS {
-            output[made] = word(self.constellation, &self.bits, at);
-            at += 1;
-            made += 1;
+        let first = self.at;
+        let made = output.len().min(WORDS - first);
+        for k in 0..made {
+            output[k] = word(self.constellation, &self.bits, first + k);
         }
-        self.at = at;
+        self.at = first + made;
         made
     }
 

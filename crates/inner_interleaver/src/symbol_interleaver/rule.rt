@@ -3,38 +3,32 @@
 ghost use Rattle.std.specs.Prelude.{◌≡◌};
 ghost use Rattle.settings.specs.Constellation.{constellation_read};
 ghost use Rattle.settings.specs.Mode.{mode_read, symbol_cells};
-ghost use Rattle.stage.specs.Known.{known_model, known_sending, known_receiving};
+ghost use Rattle.stage.specs.Optional.{known_model, known_sending, known_receiving};
 ghost use Rattle.stage.specs.Model.{new_sending, new_receiving};
-ghost use Rattle.inner_interleaver.specs.SymbolInterleaver.{symbol_interleaving, symbol_interleaver, model_of, sending_of, receiving_of, encode, decode};
+ghost use Rattle.inner_interleaver.specs.SymbolInterleaver.{symbol_interleaving, symbol_interleaver, model_of, sending_of, receiving_of, encode};
 ghost use Rattle.inner_interleaver.specs.Symbols.{symbol_rule};
 ghost use Rattle.permute.specs.Parity.{opposite};
 ghost use Rattle.stage.proofs.Blocks.{blocks_sends, blocks_hears};
 
-use super::super::limits::limit;
 use super::super::side::Side;
 use super::SymbolInterleaver;
 use address::Addresses;
-use permute::Parity;
 use holds::stopped;
+use permute::Parity;
 use refusal::Refusal;
 use settings::{Constellation, Mode};
-use stage::known::Known;
 use stage::{Fault, Stage};
 
 impl SymbolInterleaver {
     // For the codes of a mode and of a constellation.
-    pub fn new(mode: u8, constellation: u8) -> Known<SymbolInterleaver>
+    pub fn new(mode: u8, constellation: u8) -> Option<SymbolInterleaver>
         ensures model { known_model model_of result ≡ symbol_interleaver (mode_read mode) (constellation_read constellation) }
         ensures sends { known_sending sending_of result ≡ new_sending (symbol_interleaver (mode_read mode) (constellation_read constellation)) }
         ensures hears { known_receiving receiving_of result ≡ new_receiving (symbol_interleaver (mode_read mode) (constellation_read constellation)) }
     {
-        let Ok(mode) = Mode::read(mode) else {
-            return Known::Unknown;
-        };
-        let Ok(constellation) = Constellation::read(constellation) else {
-            return Known::Unknown;
-        };
-        Known::Code(SymbolInterleaver::of(mode, constellation))
+        let mode = Mode::try_from(mode).ok()?;
+        let constellation = Constellation::try_from(constellation).ok()?;
+        Some(SymbolInterleaver::of(mode, constellation))
     }
 
     pub fn of(mode: Mode, constellation: Constellation) -> SymbolInterleaver
@@ -43,18 +37,10 @@ impl SymbolInterleaver {
         ensures hears { receiving_of result ≡ new_receiving (symbol_interleaving mode constellation) }
     {
         SymbolInterleaver {
-            constellation,
             addresses: Addresses::new(mode),
-            out: Side::new(Parity::Even),
-            back: Side::new(Parity::Odd),
+            out: Side::new(mode, constellation, Parity::Even),
+            back: Side::new(mode, constellation, Parity::Odd),
         }
-    }
-
-    // N: the words of a symbol.
-    fn symbol(&self) -> usize
-        ensures { result ≡ symbol_cells self.now.addresses.mode }
-    {
-        self.addresses.list().len()
     }
 }
 
@@ -65,18 +51,18 @@ impl Stage for SymbolInterleaver {
 
     ghost receiving = { receiving_of };
 
-    ghost rule = { λ s. symbol_rule s.addresses.mode s.constellation };
+    ghost rule = { λ s. symbol_rule s.out.mode s.out.constellation };
 
-    ghost sends = { λ s. blocks_sends opposite (encode s.addresses.mode) (symbol_cells s.addresses.mode) s.out.parity _ };
+    ghost sends = { λ s. blocks_sends opposite (encode s.out.mode) (symbol_cells s.out.mode) s.out.parity _ };
 
-    ghost hears = { λ s. blocks_hears opposite (decode s.addresses.mode) (symbol_cells s.addresses.mode) (opposite s.back.parity) _ };
+    ghost hears = { λ s. blocks_hears opposite (encode s.back.mode) (symbol_cells s.back.mode) s.back.parity _ };
 
     fn taken(&self) -> u16 {
-        limit(self.constellation)
+        self.out.limit()
     }
 
     fn given(&self) -> u16 {
-        limit(self.constellation)
+        self.out.limit()
     }
 
     fn size(&self) -> u32 {
@@ -84,15 +70,15 @@ impl Stage for SymbolInterleaver {
     }
 
     fn hold(&self, m: u32) -> u32 {
-        stopped(m, u64::from(m) + 2 * self.symbol() as u64 - 2)
+        stopped(m, u64::from(m) + 2 * self.out.symbol() as u64 - 2)
     }
 
     fn send_waits(&mut self) -> bool {
-        self.out.waits(self.symbol())
+        self.out.waits()
     }
 
     fn receive_waits(&mut self) -> bool {
-        self.back.waits(self.symbol())
+        self.back.waits()
     }
 
     fn renew(&mut self) {
@@ -101,34 +87,18 @@ impl Stage for SymbolInterleaver {
     }
 
     fn send_offer(&mut self, unit: u8) -> Result<(), Refusal> {
-        if u16::from(unit) >= limit(self.constellation) {
-            return Err(Refusal::UnitTooLarge);
-        }
-        if self.out.waits(self.symbol()) {
-            return Err(Refusal::SomethingWaits);
-        }
-        self.out.put(&self.addresses, unit);
-        Ok(())
+        self.out.offer(&self.addresses, unit)
     }
 
     fn send_take(&mut self) -> Option<u8> {
-        let n = self.symbol();
-        self.out.take(n)
+        self.out.take()
     }
 
     fn receive_offer(&mut self, unit: u8) -> Result<(), Refusal> {
-        if u16::from(unit) >= limit(self.constellation) {
-            return Err(Refusal::UnitTooLarge);
-        }
-        if self.back.waits(self.symbol()) {
-            return Err(Refusal::SomethingWaits);
-        }
-        self.back.put(&self.addresses, unit);
-        Ok(())
+        self.back.offer(&self.addresses, unit)
     }
 
     fn receive_take(&mut self) -> Result<Option<u8>, Fault> {
-        let n = self.symbol();
-        Ok(self.back.take(n))
+        Ok(self.back.take())
     }
 }

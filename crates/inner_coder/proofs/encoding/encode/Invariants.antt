@@ -1,4 +1,4 @@
-use Rattle.std.proofs.Common.{◌≡◌, ◌-◌, ◌≤◌, length, take}
+use Rattle.std.proofs.Common.{◌≡◌, ◌≤◌, length, take}
 use Rattle.stage.specs.Model.{fed}
 use Rattle.stage.specs.Passing.{Gives}
 use Rattle.stage.specs.Rule.{Under}
@@ -8,12 +8,8 @@ use Rattle.inner_coder.proofs.encoding.encode.Given as goal
 
 abbrev pub invariant-loop-used : goal.invariant-loop-used
 invariant-loop-used l =
-    let rate = l.walk.rate in
-    (l.at.rate ≡ rate)
-    × (l.used ≤ length l.input)
-    × (l.made ≤ length l.initial.output)
+    let w = l.fn.walk in
+    (l.walk.rate ≡ w.rate)
+    × (l.made ≤ length l.fn.output)
     × Under 2 (take l.used l.input)
-    × Gives (inner_code rate) (fed (idle_at rate (walk_of l.walk)) (take l.used l.input)) (idle_at rate (walk_of l.at)) l.initial.output l.output l.made
-
-abbrev pub decreases-loop-used : goal.decreases-loop-used
-decreases-loop-used l = length l.input - l.used
+    × Gives (inner_code w.rate) (fed (idle_at w.rate (walk_of w)) (take l.used l.input)) (idle_at w.rate (walk_of l.walk)) l.fn.output l.output l.made

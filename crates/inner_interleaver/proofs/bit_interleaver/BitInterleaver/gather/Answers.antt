@@ -17,6 +17,7 @@ invariant_of-self c = record {
   small = (stored (goal.at.invariant_of-self c).After-copy_bits-count).small;
   short = omega (arith, c.block-block.ensures);
   few = c.args.self.now.few;
+  inside = c.args.self.now.inside;
 }
 
 pub invariant_of-self-else-self-count : goal.invariant_of-self-else-self-count
@@ -24,6 +25,7 @@ invariant_of-self-else-self-count c = record {
   small = (stored (goal.at.invariant_of-self-else-self-count c).After-copy_bits-count).small;
   short = omega (arith, width_some c.args.self.now.constellation);
   few = c.args.self.now.few;
+  inside = omega arith;
 }
 
 pub returns-then-self-count : goal.returns-then-self-count

@@ -1,4 +1,4 @@
-use Rattle.std.proofs.Common.{◌-◌, ◌*◌, length, take, drop}
+use Rattle.std.proofs.Common.{◌+◌, ◌*◌, take, drop}
 use Rattle.settings.specs.Constellation.{word_bits}
 use Rattle.stage.specs.Blocks.{block_sending}
 use Rattle.stage.specs.Passing.{Gives}
@@ -6,12 +6,9 @@ use Rattle.inner_interleaver.specs.Words.{words_of}
 use Rattle.inner_interleaver.specs.BitInterleaver.{same, encode, bit_interleaving, sending_of}
 use Rattle.inner_interleaver.proofs.bit_interleaver.rule.BitInterleaverStage.send_drain.Given as goal
 
-abbrev pub invariant-loop-made : goal.invariant-loop-made
-invariant-loop-made l =
+abbrev pub invariant-loop-k : goal.invariant-loop-k
+invariant-loop-k l =
     let s = l.self in
-    let k = s.constellation in
-    Gives (bit_interleaving k) (sending_of s) (block_sending same (encode k) (126 * word_bits k) (drop l.at (words_of k s.bits)) tt (take s.have s.bits))
-    l.initial.output l.output l.made
-
-abbrev pub decreases-loop-made : goal.decreases-loop-made
-decreases-loop-made l = length l.initial.output - l.made
+    let c = s.constellation in
+    Gives (bit_interleaving c) (sending_of s) (block_sending same (encode c) (126 * word_bits c) (drop (s.at + l.k) (words_of c s.bits)) tt (take s.have s.bits))
+    l.fn.output l.output l.k

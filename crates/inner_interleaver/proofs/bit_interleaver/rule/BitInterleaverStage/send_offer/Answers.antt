@@ -19,12 +19,12 @@ returns-then-self-lt-WORDS c =
 pub invariant_of-self : goal.invariant_of-self
 invariant_of-self c =
     let s = c.args.self.now in
-    record { small = set_below 2 s.bits s.have c.args.unit s.small c.if-unit-ge2.false; short = omega (arith, c.block.ensures, c.if-self-block.true); few = s.few }
+    record { small = set_below 2 s.bits s.have c.args.unit s.small c.if-unit-ge2.false; short = omega (arith, c.block.ensures, c.if-self-block.true); few = s.few; inside = s.inside }
 
 pub invariant_of-self-else-self-block : goal.invariant_of-self-else-self-block
 invariant_of-self-else-self-block c =
     let s = c.args.self.now in
-    record { small = set_below 2 s.bits s.have c.args.unit s.small c.if-unit-ge2.false; short = omega (arith, width_some s.constellation); few = s.few }
+    record { small = set_below 2 s.bits s.have c.args.unit s.small c.if-unit-ge2.false; short = omega (arith, width_some s.constellation); few = s.few; inside = omega arith }
 
 pub returns-then-self-block : goal.returns-then-self-block
 returns-then-self-block c =
