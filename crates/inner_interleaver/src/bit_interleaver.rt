@@ -10,6 +10,7 @@ pub mod rule;
 #[derive(Drop)]
 pub struct BitInterleaver {
     constellation: Constellation,
+    // Arrays with a length beside: a whole block is read while none of the next is gathered, and the length of an `ArrayVec` would tell only one of both.
     // Sending: the first `have` bits are gathered, or the words of a whole block wait from the place `at` on.
     bits: [u8; 756],
     have: usize,

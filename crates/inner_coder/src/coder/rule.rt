@@ -91,7 +91,7 @@ impl Stage for InnerCoder {
         if self.waits != Left::Nothing {
             return Err(Refusal::SomethingWaits);
         }
-        self.waits = Left::all(self.sending.sent());
+        self.waits = Left::from(self.sending.sent());
         self.sending.shift(unit);
         Ok(())
     }

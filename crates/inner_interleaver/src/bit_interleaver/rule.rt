@@ -128,7 +128,7 @@ impl Stage for BitInterleaver {
         made
     }
 
-    // The words of a block go out before bits of the next one are gathered.
+    // The words of a block go out before bits of the next one are gathered. How far a step comes in both slices it answers itself, so no iterator goes over them.
     fn send_pass(&mut self, input: &[u8], output: &mut [u8]) -> Passed {
         let mut used = 0;
         let mut made = 0;
