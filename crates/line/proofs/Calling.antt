@@ -2,6 +2,7 @@
 use Rattle.std.proofs.Common.{◌≡◌, ℕ, ◌+◌, ◌%◌, Bool, true, false, not, eqb, List, [], ◌++◌, length, get_or, Some, None, Ok, Err, Option, Result, sym, refl, ap, ◌∙◌, ap₂, arith}
 use Rattle.std.proofs.lemmas.Bool.{eq-eqb}
 use Rattle.refusal.specs.declared.Refusal.{Refusal}
+use Rattle.refusal.specs.declared.Refusal.TheVariants.{Closed}
 use Rattle.refusal.specs.Numbers.{number_of}
 use Rattle.settings.specs.declared.codes.Codes.{Codes}
 use Rattle.settings.specs.declared.Settings.{Settings}
@@ -19,7 +20,8 @@ use Rattle.broadcast.proofs.Packets.{fit_since}
 use Rattle.line.specs.declared.frame.Frame.{Frame}
 use Rattle.line.specs.declared.phase.Phase.{Phase}
 use Rattle.line.specs.declared.phase.Phase.TheVariants.{Idle, Open, Closing}
-use Rattle.line.specs.declared.phase.Call.TheVariants.{Start, Packet, Close}
+use Rattle.line.specs.declared.phase.Call.{Call}
+use Rattle.line.specs.declared.phase.Call.TheVariants.{Packet, Close}
 use Rattle.line.specs.View.{done_by, phase_of, admitted, seen, outcome}
 
 -- A side in which nothing waits and for which nothing is pending.
@@ -36,85 +38,75 @@ accepted v l buffer o e = ap (λ v. unless v l buffer o) e
 passes : (b : Bool) (n : ℕ) (rest : Option ℕ) → b ≡ false → rest ≡ None → check b n rest ≡ None
 passes b n rest e f = ap₂ (λ b r. check b n r) e f
 
-impossible : {X : Type 0} {r : Refusal} → ◌≡◌ {A = Result (Unit {0}) Refusal} (Err r) (Ok tt) → X
+impossible : {X : Type 0} {f : Frame} {r : Refusal} → ◌≡◌ {A = Result Frame Refusal} (Err r) (Ok f) → X
 impossible e = let z : ◌≡◌ {A = ℕ} 0 1 = cc in absurd (omega arith)
 
--- packets and closes are let in while the line is open
-pub takes_packet : (b : Bool) (p : Phase) → admitted (phase_of b p) Packet ≡ Ok tt → (b ≡ true) × (p ≡ Open)
-takes_packet false p e = impossible e
-takes_packet true Idle e = impossible e
-takes_packet true Open e = (refl, refl)
-takes_packet true Closing e = impossible e
+-- A call that a closing line refuses is let in by an open one alone, over a pile that takes bytes.
+takes : (call : Call) (b : Bool) (p : Phase) (f : Frame) → ((g : Frame) → admitted (Closing g) call ≡ Err Closed) → admitted (phase_of b p) call ≡ Ok f
+    → (b ≡ true) × (p ≡ Open f)
+takes call false p f k e = impossible e
+takes call true Idle f k e = impossible e
+takes call true (Open g) f k e = (refl, cc)
+takes call true (Closing g) f k e = impossible (sym (k g) ∙ e)
 
-pub takes_close : (b : Bool) (p : Phase) → admitted (phase_of b p) Close ≡ Ok tt → (b ≡ true) × (p ≡ Open)
-takes_close false p e = impossible e
-takes_close true Idle e = impossible e
-takes_close true Open e = (refl, refl)
-takes_close true Closing e = impossible e
-
-takes_start : (q : Phase) → admitted q Start ≡ Ok tt → q ≡ Idle
-takes_start Idle e = refl
-takes_start Open e = impossible e
-takes_start Closing e = impossible e
-
-pub idle_seen : (b : Bool) (f : Frame) (side : Sending) → seen (phase_of b Idle) f side ≡ steps.idle
-idle_seen true f side = refl
-idle_seen false f side = refl
+pub idle_seen : (b : Bool) (side : Sending) → seen (phase_of b Idle) side ≡ steps.idle
+idle_seen true side = refl
+idle_seen false side = refl
 
 module _ (M : Model) where
   -- a packet
   module _ (xs : List ℕ) (whole : length xs ≡ 188) (sync : get_or xs 0 0 ≡ 0x47) where
     open_packet : (f f' : Frame) (side side' : Sending) → side.waits ≡ [] → f'.settings ≡ f.settings
         → f'.begun ≡ (f.begun + 1) % super_frame_packets f.settings → side' ≡ fed side xs
-        → outcome done xs (seen Open f' side') ≡ steps.step M (seen Open f side) (calls.packet xs)
+        → outcome done xs (seen (Open f') side') ≡ steps.step M (seen (Open f) side) (calls.packet xs)
     open_packet f f' side side' w s n e =
         (λ i. outcome done xs (steps.opened (s i) (n i) (e i)))
         ∙ sym (accepted (steps.packet_checks side.waits xs) _ xs _
         (passes _ 15 _ (ap not (eq-eqb (length xs) 188 whole)) (passes _ 32 _ (ap not (eq-eqb (get_or xs 0 0) 0x47 sync)) (passes _ 31 None (ap some w) refl))))
 
-    pub packet_does : (b b' : Bool) (p : Phase) (f f' : Frame) (side side' : Sending) → admitted (phase_of b p) Packet ≡ Ok tt → b' ≡ b
+    pub packet_does : (b b' : Bool) (p : Phase) (f f' : Frame) (side side' : Sending) → admitted (phase_of b p) Packet ≡ Ok f → b' ≡ b
         → side.waits ≡ [] → f'.settings ≡ f.settings
         → f'.begun ≡ (f.begun + 1) % super_frame_packets f.settings → side' ≡ fed side xs
-        → outcome done xs (seen (phase_of b' p) f' side') ≡ steps.step M (seen (phase_of b p) f side) (calls.packet xs)
+        → outcome done xs (seen (phase_of b' (Open f')) side') ≡ steps.step M (seen (phase_of b p) side) (calls.packet xs)
     packet_does b b' p f f' side side' a k w s n e =
-        let t = takes_packet b p a in
-        (λ i. outcome done xs (seen (phase_of ((k ∙ t.0) i) (t.1 i)) f' side'))
+        let t = takes Packet b p f (λ g. refl) a in
+        ap (λ b. outcome done xs (seen (phase_of b (Open f')) side')) (k ∙ t.0)
         ∙ open_packet f f' side side' w s n e
-        ∙ sym (λ i. steps.step M (seen (phase_of (t.0 i) (t.1 i)) f side) (calls.packet xs))
+        ∙ sym (λ i. steps.step M (seen (phase_of (t.0 i) (t.1 i)) side) (calls.packet xs))
 
   -- a close
   open_close : (f : Frame) (side side' : Sending) → f.begun ≡ 0 → side.waits ≡ [] → side' ≡ fed side (bytes (closing_packets f.settings))
-      → outcome done [] (seen Closing f side') ≡ steps.step M (seen Open f side) calls.close
+      → outcome done [] (seen (Closing f) side') ≡ steps.step M (seen (Open f) side) calls.close
   open_close f side side' n w e =
       ap (λ s. outcome done [] (steps.closing f.settings s.waits)) e
       ∙ sym (accepted (steps.close_checks f.begun side.waits) _ [] _
       (passes _ 33 _ (ap not (eq-eqb f.begun 0 n)) (passes _ 31 None (ap some w) refl)))
 
-  pub close_does : (b b' : Bool) (p : Phase) (f : Frame) (side side' : Sending) → admitted (phase_of b p) Close ≡ Ok tt → b' ≡ b
+  pub close_does : (b b' : Bool) (p : Phase) (f : Frame) (side side' : Sending) → admitted (phase_of b p) Close ≡ Ok f → b' ≡ b
       → f.begun ≡ 0 → side.waits ≡ [] → side' ≡ fed side (bytes (closing_packets f.settings))
-      → outcome done [] (seen (phase_of b' Closing) f side') ≡ steps.step M (seen (phase_of b p) f side) calls.close
+      → outcome done [] (seen (phase_of b' (Closing f)) side') ≡ steps.step M (seen (phase_of b p) side) calls.close
   close_does b b' p f side side' a k n w e =
-      let t = takes_close b p a in
-      (λ i. outcome done [] (seen (phase_of ((k ∙ t.0) i) Closing) f side'))
+      let t = takes Close b p f (λ g. refl) a in
+      ap (λ b. outcome done [] (seen (phase_of b (Closing f)) side')) (k ∙ t.0)
       ∙ open_close f side side' n w e
-      ∙ sym (λ i. steps.step M (seen (phase_of (t.0 i) (t.1 i)) f side) calls.close)
+      ∙ sym (λ i. steps.step M (seen (phase_of (t.0 i) (t.1 i)) side) calls.close)
 
   -- a start
-  pub start_does : (c : Codes) (s : Settings) (q : Phase) (n : ℕ) (f f' : Frame) (side side' : Sending) → admitted q Start ≡ Ok tt → n ≡ M.taken
-      → settings_read c ≡ Ok s → unfit M c ≡ None → f'.settings ≡ s → f'.begun ≡ 0 → side' ≡ new_sending M
-      → outcome done [] (seen (phase_of (eqb n 256) Open) f' side') ≡ steps.step M (seen q f side) (calls.start c)
-  start_does c s q n f f' side side' a k r u t z e =
+  pub start_does : (c : Codes) (s : Settings) (q : Phase) (n : ℕ) (f : Frame) (side side' : Sending) → q ≡ Idle → n ≡ M.taken
+      → settings_read c ≡ Ok s → unfit M c ≡ None → f.settings ≡ s → f.begun ≡ 0 → side' ≡ new_sending M
+      → outcome done [] (seen (phase_of (eqb n 256) (Open f)) side') ≡ steps.step M (seen q side) (calls.start c)
+  start_does c s q n f side side' a k r u t z e =
       let fits : unfit_pile M s ≡ None = sym (ap (unfit_for M) r) ∙ u in
       let bytes_taken = eq-eqb n 256 (k ∙ (fit_since M s fits).takes_bytes) in
-      ap (λ b. outcome done [] (seen (phase_of b Open) f' side')) bytes_taken
+      ap (λ b. outcome done [] (seen (phase_of b (Open f)) side')) bytes_taken
       ∙ (λ i. outcome done [] (steps.opened (t i) (z i) (e i)))
       ∙ start-accepted M steps.idle (steps.started M) (settings_read c) s r u
-      ∙ sym (ap (λ q. steps.step M (seen q f side) (calls.start c)) (takes_start q a))
+      ∙ sym (ap (λ q. steps.step M (seen q side) (calls.start c)) a)
 
   -- a start that is refused by its codes or its pile
-  pub start_refuses : (c : Codes) (r : Refusal) (q : Phase) (f : Frame) (side : Sending) → admitted q Start ≡ Ok tt → Some (number_of r) ≡ unfit M c
-      → outcome (done_by (Err r)) [] (seen q f side) ≡ steps.step M (seen q f side) (calls.start c)
-  start_refuses c r q f side a u =
-      ap (λ q. outcome (done_by (Err r)) [] (seen q f side)) (takes_start q a)
+  pub start_refuses : (c : Codes) (r : Refusal) (q : Phase) (side : Sending) → q ≡ Idle → Some (number_of r) ≡ unfit M c
+      → outcome (done_by (Err r)) [] (seen q side) ≡ steps.step M (seen q side) (calls.start c)
+  start_refuses c r q side a u =
+      ap (λ q. outcome (done_by (Err r)) [] (seen q side)) a
       ∙ start-refused M steps.idle (steps.started M) (settings_read c) r u
-      ∙ sym (ap (λ q. steps.step M (seen q f side) (calls.start c)) (takes_start q a))
+      ∙ sym (ap (λ q. steps.step M (seen q side) (calls.start c)) a)

@@ -26,35 +26,31 @@ all_used bs used bytes h e =
     ]
 
 -- The rest of a packet from a place on is handed on, and ns are pending after it.
-module _ (M : Model) (s s' : Sending) (grow : Sends s.future) (packet ns : List ℕ) (at end : ℕ) (long : length packet ≤ end)
-    {out out' : List ℕ} (p : Passed) (passed : Passes M s s' (take (end - at) (drop at packet)) out out' p) where
-  lent : take (end - at) (drop at packet) ≡ drop at packet
-  lent = between_to_end packet at end long
-
+module _ (M : Model) (s s' : Sending) (grow : Sends s.future) (packet ns : List ℕ) (at : ℕ) {begun out out' : List ℕ} (is : begun ≡ drop at packet)
+    (p : Passed) (passed : Passes M s s' begun out out' p) where
   later : drop p.used (drop at packet) ≡ drop (at + p.used) packet
   later = drop-drop p.used at packet
 
   pub handed-on : Gives M (fed s (drop at packet ++ ns)) (fed s' (drop (at + p.used) packet ++ ns)) out out' p.made
   handed-on =
-      let used = take p.used (take (end - at) (drop at packet)) in
+      let used = take p.used begun in
       let rest = drop (at + p.used) packet ++ ns in
       let split : drop at packet ++ ns ≡ used ++ rest =
       ap (λ w. w ++ ns) (sym (take-append-drop p.used (drop at packet)))
       ∙ append_assoc (take p.used (drop at packet)) (drop p.used (drop at packet)) ns
-      ∙ ap₂ (λ a b. a ++ (b ++ ns)) (ap (take p.used) (sym lent)) later in
+      ∙ ap₂ (λ a b. a ++ (b ++ ns)) (ap (take p.used) (sym is)) later in
       gives_of M (ap (fed s) split ∙ sym (fed-fed s grow used rest)) refl (gives_fed M rest passed.drains.gives)
 
   -- so many fewer are pending
   pub fewer : 1 ≤ p.used → length (drop (at + p.used) packet ++ ns) < length (drop at packet ++ ns)
   fewer h =
-      omega (arith, length-append (drop (at + p.used) packet) ns, length-append (drop at packet) ns, ap length later, length-drop p.used (drop at packet), passed.input_has, ap length lent)
+      omega (arith, length-append (drop (at + p.used) packet) ns, length-append (drop at packet) ns, ap length later, length-drop p.used (drop at packet), passed.input_has, ap length is)
 
   -- none is, where all of the packet is used and it has nothing left
-  pub none_pending : p.used ≡ 0 → p.used ≡ length (take (end - at) (drop at packet)) → (drop at packet ≡ [] → drop at packet ++ ns ≡ [])
-      → drop (at + p.used) packet ++ ns ≡ []
+  pub none_pending : p.used ≡ 0 → p.used ≡ length begun → (drop at packet ≡ [] → drop at packet ++ ns ≡ []) → drop (at + p.used) packet ++ ns ≡ []
   none_pending z all ready =
       let same : at + p.used ≡ at = omega arith in
-      ap (λ n. drop n packet ++ ns) same ∙ ready (nil_from_length (drop at packet) (omega (arith, ap length lent)))
+      ap (λ n. drop n packet ++ ns) same ∙ ready (nil_from_length (drop at packet) (omega (arith, ap length is)))
 
 -- nothing waits in the side that the line has fed, where nothing waits in the pile and none is pending
 pub none_fed : (s : Sending) (ps : List ℕ) → Sends s.future → s.waits ≡ [] → ps ≡ [] → (fed s ps).waits ≡ []

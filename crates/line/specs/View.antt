@@ -1,7 +1,7 @@
 -- What the line's own state means, and what its answers are.
 use Rattle.std.specs.Prelude.{◌≡◌, ℕ, Bool, true, false, List, ◌++◌, drop, replicate, Ok, Err, Result, ◌==◌}
 use Rattle.refusal.specs.declared.Refusal.{Refusal}
-use Rattle.refusal.specs.declared.Refusal.TheVariants.{NotStarted, Closed, Started}
+use Rattle.refusal.specs.declared.Refusal.TheVariants.{NotStarted, Closed}
 use Rattle.refusal.specs.Numbers.{number_of}
 use Rattle.stage.specs.Model.{Model, Sending, fed}
 use Rattle.broadcast.specs.Calls.{Answer, refused, done, counted, bytes, null_packet}
@@ -13,7 +13,8 @@ use Rattle.line.specs.declared.frame.Frame.{Frame}
 use Rattle.line.specs.declared.phase.Phase.{Phase}
 use Rattle.line.specs.declared.phase.Phase.TheVariants.{Idle, Open, Closing}
 use Rattle.line.specs.declared.phase.Call.{Call}
-use Rattle.line.specs.declared.phase.Call.TheVariants.{Start, Packet, Cells, Close, Tps}
+use Rattle.line.specs.declared.phase.Call.TheVariants.{Packet, Cells, Close, Tps}
+use Rattle.line.specs.declared.feed.Feed.{Feed}
 use Rattle.line.specs.declared.Line.{Line}
 
 -- what a call answers
@@ -45,37 +46,32 @@ abbrev pub phase_of : Bool → Phase → Phase
 phase_of true p = p
 phase_of false p = Idle
 
--- what is refused by the phase and the call together
-abbrev pub admitted : Phase → Call → Result (Unit {0}) Refusal
-admitted Idle Start = Ok tt
-admitted Idle Packet = Err NotStarted
-admitted Idle Cells = Err NotStarted
-admitted Idle Close = Err NotStarted
-admitted Idle Tps = Err NotStarted
-admitted Open Start = Err Started
-admitted Open Packet = Ok tt
-admitted Open Cells = Ok tt
-admitted Open Close = Ok tt
-admitted Open Tps = Ok tt
-admitted Closing Start = Err Started
-admitted Closing Packet = Err Closed
-admitted Closing Cells = Ok tt
-admitted Closing Close = Err Closed
-admitted Closing Tps = Ok tt
+-- the frame that a call goes by, and what is refused by the phase and the call together
+abbrev pub admitted : Phase → Call → Result Frame Refusal
+admitted Idle c = Err NotStarted
+admitted (Open f) c = Ok f
+admitted (Closing f) Packet = Err Closed
+admitted (Closing f) Cells = Ok f
+admitted (Closing f) Close = Err Closed
+admitted (Closing f) Tps = Ok f
 
-abbrev pub seen : Phase → Frame → Sending → steps.Line
-seen Idle f side = steps.idle
-seen Open f side = steps.opened f.settings f.begun side
-seen Closing f side = steps.closing f.settings side.waits
+abbrev pub seen : Phase → Sending → steps.Line
+seen Idle side = steps.idle
+seen (Open f) side = steps.opened f.settings f.begun side
+seen (Closing f) side = steps.closing f.settings side.waits
+
+-- the pile's sending side once it was handed what is pending
+abbrev pub side_of : {P : Type 0} → (P → Sending) → Feed P → Sending
+side_of sending f = fed (sending f.pile) (bytes_of f.pending)
 
 -- a line, as its calls know it
 abbrev pub view : {P : Type 0} → (P → Model) → (P → Sending) → Line P → steps.Line
-view model sending l = seen (phase_of ((model l.pile).taken == 256) l.phase) l.frame (fed (sending l.pile) (bytes_of l.pending))
+view model sending l = seen (phase_of ((model l.feed.pile).taken == 256) l.phase) (side_of sending l.feed)
 
 -- What a call on the line l has done, once the line is l': its answer, its buffer and the line are those of the call's step.
 abbrev pub Does : {P : Type 0} → (P → Model) → (P → Sending) → Line P → Line P → calls.Call → Answer → List ℕ → Type 0
-Does model sending l l' c a b = outcome a b (view model sending l') ≡ steps.step (model l.pile) (view model sending l) c
+Does model sending l l' c a b = outcome a b (view model sending l') ≡ steps.step (model l.feed.pile) (view model sending l) c
 
 -- The call continues every succession that the line has gone through.
 abbrev pub Continues : {P : Type 0} → (P → Model) → (P → Sending) → Line P → Line P → calls.Call → Answer → List ℕ → Type 0
-Continues model sending l l' c a b = steps.Continues (model l.pile) (view model sending l) c (outcome a b (view model sending l'))
+Continues model sending l l' c a b = steps.Continues (model l.feed.pile) (view model sending l) c (outcome a b (view model sending l'))

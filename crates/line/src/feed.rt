@@ -1,62 +1,71 @@
-// What is pending, packet by packet.
-ghost use Rattle.std.specs.Prelude.{◌≡◌, [], length, replicate};
-ghost use Rattle.broadcast.specs.Calls.{bytes, null_packet};
-ghost use Rattle.line.specs.View.{begun_of, bytes_of};
+// A pile, and the bytes that it has yet to be handed: they are handed on, and waiting cells go into a buffer, many at once.
+ghost use Rattle.std.specs.Prelude.{◌≡◌, [], length, take};
+ghost use Rattle.stage.specs.Model.{new_sending, some};
+ghost use Rattle.stage.specs.Passing.{Passes};
+ghost use Rattle.broadcast.specs.Line.{room, written};
 
 use super::pending::Pending;
+use stage::{Passed, Stage};
 
-fn null_packet() -> [u8; 188]
-    ensures { result ≡ null_packet }
-{
-    let mut packet = [0xff; 188];
-    packet[0] = 0x47;
-    packet[1] = 0x1f;
-    packet[3] = 0x10;
-    packet
+#[derive(Drop)]
+pub struct Feed<P> {
+    pub pile: P,
+    pub pending: Pending,
 }
 
-impl Pending {
-    pub(crate) fn none() -> Pending
-        ensures { bytes_of result ≡ [] }
+// Hands bytes on to a pile that takes every byte.
+fn hand_on<P: Stage>(pile: &mut P, bytes: &[u8], buffer: &mut [u8]) -> Passed
+    requires { (P.Stage.model pile.old).taken ≡ 256 }
+    ensures fixed { P.Stage.model pile.new ≡ P.Stage.model pile.old }
+    ensures passes { Passes (P.Stage.model pile.old) (P.Stage.sending pile.old) (P.Stage.sending pile.new) bytes.now buffer.old buffer.new result }
+    ensures all { (P.Stage.sending pile.new).waits ≡ [] → result.used ≡ length bytes.now }
+{
+    pile.send_pass(bytes, buffer)
+}
+
+impl<P: Stage> Feed<P> {
+    ghost use Rattle.line.specs.View.{bytes_of, dropped, side_of};
+
+    // The pile is new, and nothing is pending.
+    pub(crate) fn renew(&mut self)
+        ensures fixed { P.Stage.model self.new.pile ≡ P.Stage.model self.old.pile }
+        ensures sends { P.Stage.sending self.new.pile ≡ new_sending (P.Stage.model self.old.pile) }
+        ensures none { bytes_of self.new.pending ≡ [] }
     {
-        Pending {
-            packet: [0; 188],
-            at: 188,
-            nulls: 0,
+        self.pile.renew();
+        self.pending = Pending::none();
+    }
+
+    // Fills a buffer with waiting cells, as many as wait and fit. Bytes are handed on until a cell finds no room.
+    pub(crate) fn fill(&mut self, buffer: &mut [u8]) -> usize
+        requires { (P.Stage.model self.old.pile).taken ≡ 256 }
+        ensures fixed { P.Stage.model self.new.pile ≡ P.Stage.model self.old.pile }
+        ensures count { result ≡ room (side_of P.Stage.sending self.old).waits buffer.old }
+        ensures filled { buffer.new ≡ written (take result (side_of P.Stage.sending self.old).waits) buffer.old }
+        ensures side { side_of P.Stage.sending self.new ≡ dropped result (side_of P.Stage.sending self.old) }
+        ensures settled { (P.Stage.sending self.new.pile).waits ≡ [] → bytes_of self.new.pending ≡ [] }
+    {
+        let mut count = 0;
+        loop {
+            self.pending.load();
+            let passed = hand_on(&mut self.pile, self.pending.begun(), &mut buffer[count..]);
+            self.pending.at += passed.used;
+            count += passed.made;
+            if passed.used == 0 {
+                return count;
+            }
         }
     }
 
-    // Begins the next null packet where the packet begun is used up.
-    pub(crate) fn load(&mut self)
-        ensures same { bytes_of self.new ≡ bytes_of self.old }
-        ensures ready { begun_of self.new ≡ [] → bytes_of self.new ≡ [] }
+    // Hands on bytes until a cell waits or none is left, and answers whether a cell waits.
+    pub(crate) fn pump(&mut self) -> bool
+        requires { (P.Stage.model self.old.pile).taken ≡ 256 }
+        ensures fixed { P.Stage.model self.new.pile ≡ P.Stage.model self.old.pile }
+        ensures side { side_of P.Stage.sending self.new ≡ side_of P.Stage.sending self.old }
+        ensures answers { result ≡ some (P.Stage.sending self.new.pile).waits }
+        ensures settled { (P.Stage.sending self.new.pile).waits ≡ [] → bytes_of self.new.pending ≡ [] }
     {
-        if self.at < 188 {
-            return;
-        }
-        if self.nulls == 0 {
-            return;
-        }
-        self.nulls -= 1;
-        self.packet = null_packet();
-        self.at = 0;
-    }
-
-    // A packet in place of what is left.
-    pub(crate) fn set_packet(&mut self, packet: &[u8])
-        requires { length packet.now ≡ 188 }
-        ensures { bytes_of self.new ≡ packet.now }
-    {
-        self.packet.copy_from_slice(packet);
-        self.at = 0;
-        self.nulls = 0;
-    }
-
-    // Null packets in place of what is left.
-    pub(crate) fn set_nulls(&mut self, count: u32)
-        ensures { bytes_of self.new ≡ bytes (replicate count null_packet) }
-    {
-        self.at = 188;
-        self.nulls = count;
+        self.fill(&mut []);
+        self.pile.send_waits()
     }
 }

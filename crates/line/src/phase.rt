@@ -1,14 +1,15 @@
-// A line's phase, and its calls.
+// A line's phase, with its frame once it is started, and the calls that go by a frame.
+use super::frame::Frame;
+
 #[derive(Clone, Copy)]
 pub enum Phase {
     Idle,
-    Open,
-    Closing,
+    Open(Frame),
+    Closing(Frame),
 }
 
 #[derive(Clone, Copy)]
 pub enum Call {
-    Start,
     Packet,
     Cells,
     Close,

@@ -1,7 +1,7 @@
 use Rattle.std.proofs.Common.{◌≡◌, eqb, [], length, get_or, sym, ap, ◌∙◌, arith}
 use Rattle.stage.specs.Model.{Sending, fed}
 use Rattle.stage.proofs.Waits.{none_waits}
-use Rattle.line.specs.View.{bytes_of}
+use Rattle.line.specs.View.{bytes_of, side_of}
 use Rattle.line.proofs.Calling.{packet_does, none_waits_fed, fed_further}
 use Rattle.line.proofs.Line.accept.Goals as goal
 
@@ -11,19 +11,19 @@ returns g c =
     let l = c.args.self.now in
     let xs = c.args.packet.now in
     let pumped = c.pump.ensures in
-    let s : Sending = p.sending c.pump.new.pile in
-    let ps = bytes_of c.pump.new.pending in
-    let side : Sending = fed (p.sending l.pile) (bytes_of l.pending) in
+    let s : Sending = p.sending c.pump.new.self.pile in
+    let ps = bytes_of c.pump.new.self.pending in
+    let side : Sending = side_of p.sending l.feed in
     let idle : s.waits ≡ [] = none_waits s.waits (sym pumped.answers ∙ c.if-pump.false) in
     let none : ps ≡ [] = pumped.settled idle in
-    let grow = g.met.P.Stage.sends c.pump.new.pile in
+    let grow = g.met.P.Stage.sends c.pump.new.self.pile in
     let whole : length xs ≡ 188 = omega arith in
     let sync : get_or xs 0 0 ≡ 0x47 = omega arith in
     record {
       fixed = pumped.fixed;
-      does = packet_does (p.model l.pile) xs whole sync (eqb (p.model l.pile).taken 256) (eqb (p.model c.pump.new.pile).taken 256)
-          l.phase l.frame c.count.new.self side (fed s (bytes_of c.set_packet.new.self))
-          (sym c.admit.ensures ∙ c.in_ok-admit.was) (ap (λ m. eqb m.taken 256) pumped.fixed)
-          (none_waits_fed s side ps grow pumped.side none idle) c.count.ensures.settings c.count.ensures.begun
+      does = packet_does (p.model l.feed.pile) xs whole sync (eqb (p.model l.feed.pile).taken 256) (eqb (p.model c.pump.new.self.pile).taken 256)
+          l.phase c.in_ok-frame.frame c.counted.result side (fed s (bytes_of c.set_packet.new.self))
+          (sym c.admit.ensures ∙ c.in_ok-frame.was) (ap (λ m. eqb m.taken 256) pumped.fixed)
+          (none_waits_fed s side ps grow pumped.side none idle) c.counted.ensures.settings c.counted.ensures.begun
           (ap (fed s) c.set_packet.ensures ∙ fed_further s side ps grow pumped.side none xs);
     }

@@ -11,7 +11,7 @@ returns g c =
     record {
       fixed = did.fixed;
       does = did.does;
-      continues = line_continues (p.model l.pile) (g.met.P.Stage.rule l.pile) (view p.model p.sending l) (cells c.args.buffer.now)
+      continues = line_continues (p.model l.feed.pile) (g.met.P.Stage.rule l.feed.pile) (view p.model p.sending l) (cells c.args.buffer.now)
           (outcome (counted_by c.write.result) c.write.new.buffer (view p.model p.sending c.write.new.self)) tt did.does;
       holds = c.holds.ensures;
     }

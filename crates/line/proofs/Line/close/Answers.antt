@@ -12,7 +12,7 @@ returns g c =
     record {
       fixed = did.fixed;
       does = did.does;
-      continues = line_continues (p.model l.pile) (g.met.P.Stage.rule l.pile) (view p.model p.sending l) close
+      continues = line_continues (p.model l.feed.pile) (g.met.P.Stage.rule l.feed.pile) (view p.model p.sending l) close
           (outcome (done_by c.finish.result) [] (view p.model p.sending c.finish.new.self)) tt did.does;
       holds = c.holds.ensures;
     }

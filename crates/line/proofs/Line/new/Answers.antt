@@ -9,7 +9,7 @@ pub returns : goal.returns
 returns g c =
     let p = g.P.Stage in
     let pile = c.args.pile in
-    let idle = idle_seen (eqb (p.model pile).taken 256) c.none.result (fed (p.sending pile) (bytes_of c.none-2.result)) in
+    let idle = idle_seen (eqb (p.model pile).taken 256) (fed (p.sending pile) (bytes_of c.none.result)) in
     record {
       pile = refl;
       idle = idle;

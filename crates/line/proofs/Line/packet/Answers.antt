@@ -13,7 +13,7 @@ returns g c =
     record {
       fixed = did.fixed;
       does = did.does;
-      continues = line_continues (p.model l.pile) (g.met.P.Stage.rule l.pile) (view p.model p.sending l) (packet c.args.packet.now)
+      continues = line_continues (p.model l.feed.pile) (g.met.P.Stage.rule l.feed.pile) (view p.model p.sending l) (packet c.args.packet.now)
           (outcome (done_by c.accept.result) c.args.packet.now (view p.model p.sending c.accept.new.self)) (All-from_get_or (λ x. x < 256) c.args.packet.now 0 (λ i h. omega (arith, c.type_inv.packet i))) did.does;
       holds = c.holds.ensures;
     }

@@ -12,7 +12,7 @@ returns g c =
     record {
       fixed = did.fixed;
       does = did.does;
-      continues = line_continues (p.model l.pile) (g.met.P.Stage.rule l.pile) (view p.model p.sending l) (start c.args.codes.now)
+      continues = line_continues (p.model l.feed.pile) (g.met.P.Stage.rule l.feed.pile) (view p.model p.sending l) (start c.args.codes.now)
           (outcome (done_by c.begin.result) [] (view p.model p.sending c.begin.new.self)) c.identified.ensures did.does;
       holds = c.holds.ensures;
     }

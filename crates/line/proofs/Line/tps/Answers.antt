@@ -10,7 +10,7 @@ returns g c =
     let did = c.signal.ensures in
     record {
       does = did;
-      continues = line_continues (p.model l.pile) (g.met.P.Stage.rule l.pile) (view p.model p.sending l) (tps c.args.frame c.args.buffer.now)
+      continues = line_continues (p.model l.feed.pile) (g.met.P.Stage.rule l.feed.pile) (view p.model p.sending l) (tps c.args.frame c.args.buffer.now)
           (outcome (done_by c.signal.result) c.signal.new.buffer (view p.model p.sending l)) tt did;
       holds = c.holds.ensures;
     }

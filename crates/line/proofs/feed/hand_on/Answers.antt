@@ -1,7 +1,7 @@
 use Rattle.std.proofs.Common.{drop, sym, ap, ◌∙◌, arith}
 use Rattle.stage.specs.Piled.{fitting}
 use Rattle.line.proofs.Filling.{all_used}
-use Rattle.line.proofs.fill.hand_on.Goals as goal
+use Rattle.line.proofs.feed.hand_on.Goals as goal
 
 pub returns : goal.returns
 returns g c =
