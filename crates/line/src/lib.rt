@@ -65,77 +65,6 @@ impl<P: Stage> Line<P> {
             (Phase::Open(frame) | Phase::Closing(frame), _) => Ok(frame),
         }
     }
-
-    // start
-    fn begin(&mut self, codes: &Codes) -> Result<(), Refusal>
-        ensures fixed { P.Stage.model self.new.feed.pile ≡ P.Stage.model self.old.feed.pile }
-        ensures does { Does P.Stage.model P.Stage.sending self.old self.new (start_call codes.now) (done_by result) [] }
-    {
-        let Phase::Idle = self.phase() else {
-            return Err(Refusal::Started);
-        };
-        let settings = fit(&self.feed.pile, codes)?;
-        self.feed.renew();
-        self.phase = Phase::Open(Frame::new(settings));
-        Ok(())
-    }
-
-    // packet
-    fn accept(&mut self, packet: &[u8]) -> Result<(), Refusal>
-        ensures fixed { P.Stage.model self.new.feed.pile ≡ P.Stage.model self.old.feed.pile }
-        ensures does { Does P.Stage.model P.Stage.sending self.old self.new (packet_call packet.now) (done_by result) packet.now }
-    {
-        let frame = self.admit(Call::Packet)?;
-        let [sync, rest @ ..] = packet else {
-            return Err(Refusal::PacketLength);
-        };
-        if rest.len() != 187 {
-            return Err(Refusal::PacketLength);
-        }
-        if *sync != 0x47 {
-            return Err(Refusal::FirstByte);
-        }
-        if self.feed.pump() {
-            return Err(Refusal::CellsWait);
-        }
-        self.feed.pending.set_packet(packet);
-        self.phase = Phase::Open(frame.counted());
-        Ok(())
-    }
-
-    // cells
-    fn write(&mut self, buffer: &mut [u8]) -> Result<usize, Refusal>
-        ensures fixed { P.Stage.model self.new.feed.pile ≡ P.Stage.model self.old.feed.pile }
-        ensures does { Does P.Stage.model P.Stage.sending self.old self.new (cells_call buffer.old) (counted_by result) buffer.new }
-    {
-        self.admit(Call::Cells)?;
-        Ok(self.feed.fill(buffer))
-    }
-
-    // close
-    fn finish(&mut self) -> Result<(), Refusal>
-        ensures fixed { P.Stage.model self.new.feed.pile ≡ P.Stage.model self.old.feed.pile }
-        ensures does { Does P.Stage.model P.Stage.sending self.old self.new close_call (done_by result) [] }
-    {
-        let frame = self.admit(Call::Close)?;
-        if frame.begun != 0 {
-            return Err(Refusal::PartSuperFrame);
-        }
-        if self.feed.pump() {
-            return Err(Refusal::CellsWait);
-        }
-        self.feed.pending.set_nulls(frame.packets);
-        self.phase = Phase::Closing(frame);
-        Ok(())
-    }
-
-    // tps
-    fn signal(&self, frame: u8, buffer: &mut [u8]) -> Result<(), Refusal>
-        ensures { Does P.Stage.model P.Stage.sending self.now self.now (tps_call frame buffer.old) (done_by result) buffer.new }
-    {
-        let super_frame = self.admit(Call::Tps)?;
-        write_block(&super_frame.settings, frame, buffer)
-    }
 }
 
 // The calls, with what holds of every broadcast over the line's pile. Each continues the succession that the line has gone through.
@@ -165,7 +94,13 @@ impl<P: Stage> Line<P> {
     {
         holds(&self.feed.pile);
         identified(codes);
-        self.begin(codes)
+        let Phase::Idle = self.phase() else {
+            return Err(Refusal::Started);
+        };
+        let settings = fit(&self.feed.pile, codes)?;
+        self.feed.renew();
+        self.phase = Phase::Open(Frame::new(settings));
+        Ok(())
     }
 
     // Takes a packet, whose bytes go to the pile as its cells are asked for.
@@ -176,7 +111,22 @@ impl<P: Stage> Line<P> {
         ensures holds { HoldsOver (P.Stage.model self.old.feed.pile) }
     {
         holds(&self.feed.pile);
-        self.accept(packet)
+        let frame = self.admit(Call::Packet)?;
+        let [sync, rest @ ..] = packet else {
+            return Err(Refusal::PacketLength);
+        };
+        if rest.len() != 187 {
+            return Err(Refusal::PacketLength);
+        }
+        if *sync != 0x47 {
+            return Err(Refusal::FirstByte);
+        }
+        if self.feed.pump() {
+            return Err(Refusal::CellsWait);
+        }
+        self.feed.pending.set_packet(packet);
+        self.phase = Phase::Open(frame.counted());
+        Ok(())
     }
 
     // Fills a buffer with waiting cells, as many as wait and fit, and answers the count.
@@ -187,7 +137,8 @@ impl<P: Stage> Line<P> {
         ensures holds { HoldsOver (P.Stage.model self.old.feed.pile) }
     {
         holds(&self.feed.pile);
-        self.write(buffer)
+        self.admit(Call::Cells)?;
+        Ok(self.feed.fill(buffer))
     }
 
     // Sends a super-frame of null packets, after which the line takes no more.
@@ -198,7 +149,16 @@ impl<P: Stage> Line<P> {
         ensures holds { HoldsOver (P.Stage.model self.old.feed.pile) }
     {
         holds(&self.feed.pile);
-        self.finish()
+        let frame = self.admit(Call::Close)?;
+        if frame.begun != 0 {
+            return Err(Refusal::PartSuperFrame);
+        }
+        if self.feed.pump() {
+            return Err(Refusal::CellsWait);
+        }
+        self.feed.pending.set_nulls(frame.packets);
+        self.phase = Phase::Closing(frame);
+        Ok(())
     }
 
     // Writes the 67 bits of a frame's signalling block at the front of a buffer.
@@ -208,6 +168,7 @@ impl<P: Stage> Line<P> {
         ensures holds { HoldsOver (P.Stage.model self.now.feed.pile) }
     {
         holds(&self.feed.pile);
-        self.signal(frame, buffer)
+        let super_frame = self.admit(Call::Tps)?;
+        write_block(&super_frame.settings, frame, buffer)
     }
 }

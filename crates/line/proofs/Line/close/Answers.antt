@@ -1,18 +1,43 @@
-use Rattle.std.proofs.Common.{[]}
-use Rattle.broadcast.specs.Line.{close}
+use Rattle.std.proofs.Common.{◌≡◌, eqb, [], replicate, sym, ap, ◌∙◌, arith, rules}
+use Rattle.stage.specs.Model.{Sending, fed}
+use Rattle.stage.proofs.Waits.{none_waits}
+use Rattle.broadcast.specs.Calls.{bytes, closing_packets, null_packet}
+use Rattle.line.specs.View.{bytes_of, side_of}
+use Rattle.line.proofs.Calling.{close_does, none_waits_fed, fed_further}
 use Rattle.broadcast.proofs.All.{line_continues}
-use Rattle.line.specs.View.{done_by, view, outcome}
 use Rattle.line.proofs.Line.close.Goals as goal
+
+pub returns-in_err-frame-clause-continues : goal.returns-in_err-frame-clause-continues
+returns-in_err-frame-clause-continues g c = line_continues _ (g.met.P.Stage.rule _) _ _ _ tt (search rules)
+
+pub returns-then-frame-ne0-clause-continues : goal.returns-then-frame-ne0-clause-continues
+returns-then-frame-ne0-clause-continues g c = line_continues _ (g.met.P.Stage.rule _) _ _ _ tt (search rules)
+
+pub returns-then-pump-clause-continues : goal.returns-then-pump-clause-continues
+returns-then-pump-clause-continues g c = line_continues _ (g.met.P.Stage.rule _) _ _ _ tt (search rules)
 
 pub returns : goal.returns
 returns g c =
     let p = g.P.Stage in
     let l = c.args.self.now in
-    let did = c.finish.ensures in
+    let f = c.in_ok-frame.frame in
+    let pumped = c.pump.ensures in
+    let s : Sending = p.sending c.pump.new.self.pile in
+    let ps = bytes_of c.pump.new.self.pending in
+    let side : Sending = side_of p.sending l.feed in
+    let idle : s.waits ≡ [] = none_waits s.waits (sym pumped.answers ∙ c.if-pump.false) in
+    let none : ps ≡ [] = pumped.settled idle in
+    let grow = g.met.P.Stage.sends c.pump.new.self.pile in
+    let begun : f.begun ≡ 0 = omega arith in
+    let did = close_does (p.model l.feed.pile) (eqb (p.model l.feed.pile).taken 256) (eqb (p.model c.pump.new.self.pile).taken 256)
+          l.phase f side (fed s (bytes_of c.set_nulls.new.self))
+          (sym c.admit.ensures ∙ c.in_ok-frame.was) (ap (λ m. eqb m.taken 256) pumped.fixed)
+          begun (none_waits_fed s side ps grow pumped.side none idle)
+          (ap (fed s) (c.set_nulls.ensures ∙ ap (λ n. bytes (replicate n null_packet)) f.whole)
+          ∙ fed_further s side ps grow pumped.side none (bytes (closing_packets f.settings))) in
     record {
-      fixed = did.fixed;
-      does = did.does;
-      continues = line_continues (p.model l.feed.pile) (g.met.P.Stage.rule l.feed.pile) (view p.model p.sending l) close
-          (outcome (done_by c.finish.result) [] (view p.model p.sending c.finish.new.self)) tt did.does;
+      fixed = pumped.fixed;
+      does = did;
+      continues = line_continues _ (g.met.P.Stage.rule _) _ _ _ tt did;
       holds = c.holds.ensures;
     }

@@ -1,19 +1,55 @@
-use Rattle.std.proofs.Common.{◌<◌, arith}
-use Rattle.std.proofs.ByRecursion.{All-from_get_or}
-use Rattle.broadcast.specs.Line.{packet}
+use Rattle.std.proofs.lemmas.Grind.{common_steps}
+use Rattle.std.proofs.Common.{ℕ, List, Fits, w8, ◌≡◌, eqb, [], length, get_or, sym, ap, ◌∙◌, arith, rules, ◌<◌}
+use Rattle.stage.specs.Rule.{Under}
+use Rattle.stage.specs.Model.{Sending, fed}
+use Rattle.stage.proofs.Waits.{none_waits}
+use Rattle.line.specs.View.{bytes_of, side_of}
+use Rattle.line.proofs.Calling.{packet_does, none_waits_fed, fed_further}
 use Rattle.broadcast.proofs.All.{line_continues}
-use Rattle.line.specs.View.{done_by, view, outcome}
+use Rattle.std.proofs.ByRecursion.{All-from_get_or}
 use Rattle.line.proofs.Line.packet.Goals as goal
+
+-- the bytes of a slice of u8
+under : (xs : List ℕ) → ((i : ℕ) → Fits w8 (get_or xs i 0)) → Under 256 xs
+under xs h = All-from_get_or (λ x. x < 256) xs 0 (λ i k. omega (arith, h i))
+
+pub returns-in_err-frame-clause-continues : goal.returns-in_err-frame-clause-continues
+returns-in_err-frame-clause-continues g c = line_continues _ (g.met.P.Stage.rule _) _ _ _ (under _ c.type_inv.packet) (search rules)
+
+pub returns-in_default-clause-continues : goal.returns-in_default-clause-continues
+returns-in_default-clause-continues g c = line_continues _ (g.met.P.Stage.rule _) _ _ _ (under _ c.type_inv.packet) (search rules)
+
+pub returns-then-rest-ne187-clause-continues : goal.returns-then-rest-ne187-clause-continues
+returns-then-rest-ne187-clause-continues g c = line_continues _ (g.met.P.Stage.rule _) _ _ _ (under _ c.type_inv.packet) (search rules)
+
+pub returns-then-sync-ne71-clause-continues : goal.returns-then-sync-ne71-clause-continues
+returns-then-sync-ne71-clause-continues g c = line_continues _ (g.met.P.Stage.rule _) _ _ _ (under _ c.type_inv.packet) (grind (arith, common_steps))
+
+pub returns-then-pump-clause-continues : goal.returns-then-pump-clause-continues
+returns-then-pump-clause-continues g c = line_continues _ (g.met.P.Stage.rule _) _ _ _ (under _ c.type_inv.packet) (search rules)
 
 pub returns : goal.returns
 returns g c =
     let p = g.P.Stage in
     let l = c.args.self.now in
-    let did = c.accept.ensures in
+    let xs = c.args.packet.now in
+    let pumped = c.pump.ensures in
+    let s : Sending = p.sending c.pump.new.self.pile in
+    let ps = bytes_of c.pump.new.self.pending in
+    let side : Sending = side_of p.sending l.feed in
+    let idle : s.waits ≡ [] = none_waits s.waits (sym pumped.answers ∙ c.if-pump.false) in
+    let none : ps ≡ [] = pumped.settled idle in
+    let grow = g.met.P.Stage.sends c.pump.new.self.pile in
+    let whole : length xs ≡ 188 = omega arith in
+    let sync : get_or xs 0 0 ≡ 0x47 = omega arith in
+    let did = packet_does (p.model l.feed.pile) xs whole sync (eqb (p.model l.feed.pile).taken 256) (eqb (p.model c.pump.new.self.pile).taken 256)
+          l.phase c.in_ok-frame.frame c.counted.result side (fed s (bytes_of c.set_packet.new.self))
+          (sym c.admit.ensures ∙ c.in_ok-frame.was) (ap (λ m. eqb m.taken 256) pumped.fixed)
+          (none_waits_fed s side ps grow pumped.side none idle) c.counted.ensures.settings c.counted.ensures.begun
+          (ap (fed s) c.set_packet.ensures ∙ fed_further s side ps grow pumped.side none xs) in
     record {
-      fixed = did.fixed;
-      does = did.does;
-      continues = line_continues (p.model l.feed.pile) (g.met.P.Stage.rule l.feed.pile) (view p.model p.sending l) (packet c.args.packet.now)
-          (outcome (done_by c.accept.result) c.args.packet.now (view p.model p.sending c.accept.new.self)) (All-from_get_or (λ x. x < 256) c.args.packet.now 0 (λ i h. omega (arith, c.type_inv.packet i))) did.does;
+      fixed = pumped.fixed;
+      does = did;
+      continues = line_continues _ (g.met.P.Stage.rule _) _ _ _ (under _ c.type_inv.packet) did;
       holds = c.holds.ensures;
     }

@@ -1,18 +1,53 @@
-use Rattle.std.proofs.Common.{[]}
-use Rattle.broadcast.specs.Line.{start}
+use Rattle.std.proofs.Common.{◌≡◌, eqb, [], Err, sym, refl, ap, ◌∙◌, rules}
+use Rattle.std.proofs.lemmas.Result.{err_from_is_err_and}
+use Rattle.refusal.specs.declared.Refusal.{Refusal}
+use Rattle.refusal.specs.Numbers.{refused_by}
+use Rattle.stage.specs.Model.{Sending, fed}
+use Rattle.stage.proofs.Feeding.{fed_none}
+use Rattle.line.specs.View.{done_by, outcome, bytes_of, phase_of, seen, side_of}
+use Rattle.line.proofs.Calling.{start_does, start_refuses}
 use Rattle.broadcast.proofs.All.{line_continues}
-use Rattle.line.specs.View.{done_by, view, outcome}
 use Rattle.line.proofs.Line.start.Goals as goal
+
+pub returns-in_default-clause-continues : goal.returns-in_default-clause-continues
+returns-in_default-clause-continues g c = line_continues _ (g.met.P.Stage.rule _) _ _ _ c.identified.ensures (search rules)
+
+pub returns-in_err-settings : goal.returns-in_err-settings
+returns-in_err-settings g c =
+    let p = g.P.Stage in
+    let l = c.args.self.now in
+    let m = p.model l.feed.pile in
+    let q = phase_of (eqb m.taken 256) l.phase in
+    let side : Sending = side_of p.sending l.feed in
+    let why : Refusal = c.in_err-settings.field-0.0 in
+    let out = err_from_is_err_and c.from_residual.result c.from_residual.ensures.1 in
+    let is : c.from_residual.result ≡ Err why = out.1 ∙ ap Err out.2 in
+    let did = ap (λ r. outcome (done_by r) [] (seen q side)) is
+          ∙ start_refuses m c.args.codes.now why q side
+          (sym c.phase.ensures ∙ c.in-Idle.is) (sym (ap refused_by c.in_err-settings.was) ∙ c.fit.ensures.checks) in
+    record {
+      fixed = refl;
+      does = did;
+      continues = line_continues _ (g.met.P.Stage.rule _) _ _ _ c.identified.ensures did;
+      holds = c.holds.ensures;
+    }
 
 pub returns : goal.returns
 returns g c =
     let p = g.P.Stage in
     let l = c.args.self.now in
-    let did = c.begin.ensures in
+    let m = p.model l.feed.pile in
+    let s : Sending = p.sending c.renew.new.self.pile in
+    let did = start_does m c.args.codes.now c.in_ok-settings.settings (phase_of (eqb m.taken 256) l.phase) (p.model c.renew.new.self.pile).taken
+          c.new.result (side_of p.sending l.feed) (side_of p.sending c.renew.new.self)
+          (sym c.phase.ensures ∙ c.in-Idle.is) (ap (λ m. m.taken) c.renew.ensures.fixed)
+          c.in_ok-settings.ensures.settings
+          (sym c.fit.ensures.checks ∙ ap refused_by c.in_ok-settings.was)
+          c.new.ensures.settings c.new.ensures.begun
+          (ap (fed s) c.renew.ensures.none ∙ fed_none s (g.met.P.Stage.sends c.renew.new.self.pile) ∙ c.renew.ensures.sends) in
     record {
-      fixed = did.fixed;
-      does = did.does;
-      continues = line_continues (p.model l.feed.pile) (g.met.P.Stage.rule l.feed.pile) (view p.model p.sending l) (start c.args.codes.now)
-          (outcome (done_by c.begin.result) [] (view p.model p.sending c.begin.new.self)) c.identified.ensures did.does;
+      fixed = c.renew.ensures.fixed;
+      does = did;
+      continues = line_continues _ (g.met.P.Stage.rule _) _ _ _ c.identified.ensures did;
       holds = c.holds.ensures;
     }

@@ -1,16 +1,9 @@
-use Rattle.broadcast.specs.Line.{tps}
+use Rattle.std.proofs.Common.{rules}
 use Rattle.broadcast.proofs.All.{line_continues}
-use Rattle.line.specs.View.{done_by, view, outcome}
 use Rattle.line.proofs.Line.tps.Goals as goal
 
-pub returns : goal.returns
-returns g c =
-    let p = g.P.Stage in
-    let l = c.args.self.now in
-    let did = c.signal.ensures in
-    record {
-      does = did;
-      continues = line_continues (p.model l.feed.pile) (g.met.P.Stage.rule l.feed.pile) (view p.model p.sending l) (tps c.args.frame c.args.buffer.now)
-          (outcome (done_by c.signal.result) c.signal.new.buffer (view p.model p.sending l)) tt did;
-      holds = c.holds.ensures;
-    }
+pub returns-in_err-super_frame-clause-continues : goal.returns-in_err-super_frame-clause-continues
+returns-in_err-super_frame-clause-continues g c = line_continues _ (g.met.P.Stage.rule _) _ _ _ tt (search rules)
+
+pub returns-clause-continues : goal.returns-clause-continues
+returns-clause-continues g c = line_continues _ (g.met.P.Stage.rule _) _ _ _ tt (search rules)
