@@ -1,5 +1,5 @@
 -- The calls of a line where nothing refuses them, from what their checks have found.
-use Rattle.std.proofs.Common.{◌≡◌, ℕ, ◌+◌, ◌%◌, Bool, true, false, not, eqb, List, [], ◌++◌, length, get_or, Some, None, Ok, Err, Option, Result, sym, refl, ap, ◌∙◌, ap₂, arith}
+use Rattle.std.proofs.Common.{◌≡◌, ℕ, ◌+◌, ◌%◌, Bool, true, false, not, eqb, List, [], length, get_or, Some, None, Ok, Err, Option, Result, sym, refl, ap, ◌∙◌, ap₂, arith}
 use Rattle.std.proofs.lemmas.Bool.{eq-eqb}
 use Rattle.refusal.specs.declared.Refusal.{Refusal}
 use Rattle.refusal.specs.declared.Refusal.TheVariants.{Closed}
@@ -24,13 +24,9 @@ use Rattle.line.specs.declared.phase.Call.{Call}
 use Rattle.line.specs.declared.phase.Call.TheVariants.{Packet, Close}
 use Rattle.line.specs.View.{done_by, phase_of, admitted, seen, outcome}
 
--- A side in which nothing waits and for which nothing is pending.
-module _ (s side : Sending) (ps : List ℕ) (g : Sends s.future) (e : fed s ps ≡ side) (p : ps ≡ []) where
-  pub none_waits_fed : s.waits ≡ [] → side.waits ≡ []
-  none_waits_fed w = sym (ap (λ s. s.waits) e) ∙ ap₂ (λ w p. w ++ s.future p) w p ∙ g.none
-
-  pub fed_further : (xs : List ℕ) → fed s xs ≡ fed side xs
-  fed_further xs = sym (fed-fed s g [] xs) ∙ ap (λ t. fed t xs) (ap (fed s) (sym p) ∙ e)
+-- further bytes, where none is pending
+pub fed_further : (s side : Sending) (ps : List ℕ) → Sends s.future → fed s ps ≡ side → ps ≡ [] → (xs : List ℕ) → fed s xs ≡ fed side xs
+fed_further s side ps g e p xs = sym (fed-fed s g [] xs) ∙ ap (λ t. fed t xs) (ap (fed s) (sym p) ∙ e)
 
 accepted : {S : Type 0} (v : Option ℕ) (l : S) (buffer : List ℕ) (o : Outcome S) → v ≡ None → unless v l buffer o ≡ o
 accepted v l buffer o e = ap (λ v. unless v l buffer o) e

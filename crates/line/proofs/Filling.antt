@@ -1,10 +1,9 @@
 -- Bytes are handed on, and waiting cells are written into a buffer.
-use Rattle.std.proofs.Common.{◌≡◌, ℕ, ◌+◌, ◌-◌, ◌<◌, ◌≤◌, List, [], ◌∷◌, ◌++◌, length, get_or, take, drop, sym, refl, ap, ◌∙◌, ap₂, inl, inr, arith, length-append, length-drop, take-append-drop}
+use Rattle.std.proofs.Common.{◌≡◌, ℕ, ◌+◌, ◌<◌, ◌≤◌, List, [], ◌∷◌, ◌++◌, length, get_or, take, drop, sym, refl, ap, ◌∙◌, ap₂, inl, inr, arith, length-append, length-drop, take-append-drop}
 use Rattle.std.proofs.lemmas.List.{append_assoc, drop_at, drop-drop, drop_more, nil_from_length, take_at}
-use Rattle.std.proofs.lemmas.Slice.{between_to_end}
 use Rattle.std.proofs.lemmas.Bool.{cases_lt, lt-ltb}
 use Rattle.stage.specs.declared.Passed.{Passed}
-use Rattle.stage.specs.Model.{Model, Sending, fed}
+use Rattle.stage.specs.Model.{Model, Sending, fed, some}
 use Rattle.stage.specs.Passing.{Gives, Drains, Passes}
 use Rattle.stage.specs.Piled.{fitting, keep_if}
 use Rattle.stage.specs.Rule.{Sends}
@@ -55,6 +54,14 @@ module _ (M : Model) (s s' : Sending) (grow : Sends s.future) (packet ns : List 
 -- nothing waits in the side that the line has fed, where nothing waits in the pile and none is pending
 pub none_fed : (s : Sending) (ps : List ℕ) → Sends s.future → s.waits ≡ [] → ps ≡ [] → (fed s ps).waits ≡ []
 none_fed s ps grow w p = ap₂ (λ w p. w ++ s.future p) w p ∙ grow.none
+
+-- some wait in it exactly where some wait in the pile, where none is pending once none waits in the pile
+pub waits_fed : (s : Sending) (ps : List ℕ) → Sends s.future → (s.waits ≡ [] → ps ≡ []) → some s.waits ≡ some (fed s ps).waits
+waits_fed s ps grow settled = go s.waits refl
+  where
+    go : (w : List ℕ) → s.waits ≡ w → some w ≡ some (w ++ s.future ps)
+    go [] e = sym (ap (λ w. some (w ++ s.future ps)) (sym e) ∙ ap some (none_fed s ps grow e (settled e)))
+    go (x ∷ w) e = refl
 
 -- what the buffer then holds, and what is left
 pub filled_by : (M : Model) (W W' : Sending) (out out' : List ℕ) (n : ℕ) → Drains M W W' out out' n

@@ -1,5 +1,5 @@
 // A pile, and the bytes that it has yet to be handed: they are handed on, and waiting cells go into a buffer, many at once.
-ghost use Rattle.std.specs.Prelude.{◌≡◌, [], length, take};
+ghost use Rattle.std.specs.Prelude.{◌≡◌, false, [], length, take};
 ghost use Rattle.stage.specs.Model.{new_sending, some};
 ghost use Rattle.stage.specs.Passing.{Passes};
 ghost use Rattle.broadcast.specs.Line.{room, written};
@@ -62,8 +62,8 @@ impl<P: Stage> Feed<P> {
         requires { (P.Stage.model self.old.pile).taken ≡ 256 }
         ensures fixed { P.Stage.model self.new.pile ≡ P.Stage.model self.old.pile }
         ensures side { side_of P.Stage.sending self.new ≡ side_of P.Stage.sending self.old }
-        ensures answers { result ≡ some (P.Stage.sending self.new.pile).waits }
-        ensures settled { (P.Stage.sending self.new.pile).waits ≡ [] → bytes_of self.new.pending ≡ [] }
+        ensures answers { result ≡ some (side_of P.Stage.sending self.old).waits }
+        ensures none { result ≡ false → bytes_of self.new.pending ≡ [] }
     {
         self.fill(&mut []);
         self.pile.send_waits()

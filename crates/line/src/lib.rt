@@ -42,7 +42,7 @@ fn identified(codes: &Codes)
     }
 }
 
-// What each call does.
+// What phase and call let in.
 impl<P: Stage> Line<P> {
     // A line over a pile that takes no bytes is idle.
     fn phase(&self) -> Phase
@@ -67,7 +67,8 @@ impl<P: Stage> Line<P> {
     }
 }
 
-// The calls, with what holds of every broadcast over the line's pile. Each continues the succession that the line has gone through.
+// The calls. Each continues the succession that the line has gone through, and carries the whole theorem over the line's pile (`holds`):
+// whoever reads one call's contract has all that is promised.
 impl<P: Stage> Line<P> {
     pub fn new(pile: P) -> Line<P>
         ensures pile { result.feed.pile ≡ pile }

@@ -3,7 +3,7 @@ use Rattle.stage.specs.Model.{Sending, fed}
 use Rattle.stage.proofs.Waits.{none_waits}
 use Rattle.broadcast.specs.Calls.{bytes, closing_packets, null_packet}
 use Rattle.line.specs.View.{bytes_of, side_of}
-use Rattle.line.proofs.Calling.{close_does, none_waits_fed, fed_further}
+use Rattle.line.proofs.Calling.{close_does, fed_further}
 use Rattle.broadcast.proofs.All.{line_continues}
 use Rattle.line.proofs.Line.close.Goals as goal
 
@@ -25,16 +25,15 @@ returns g c =
     let s : Sending = p.sending c.pump.new.self.pile in
     let ps = bytes_of c.pump.new.self.pending in
     let side : Sending = side_of p.sending l.feed in
-    let idle : s.waits ≡ [] = none_waits s.waits (sym pumped.answers ∙ c.if-pump.false) in
-    let none : ps ≡ [] = pumped.settled idle in
+    let none : ps ≡ [] = pumped.none c.if-pump.false in
     let grow = g.met.P.Stage.sends c.pump.new.self.pile in
     let begun : f.begun ≡ 0 = omega arith in
     let did = close_does (p.model l.feed.pile) (eqb (p.model l.feed.pile).taken 256) (eqb (p.model c.pump.new.self.pile).taken 256)
-          l.phase f side (fed s (bytes_of c.set_nulls.new.self))
-          (sym c.admit.ensures ∙ c.in_ok-frame.was) (ap (λ m. eqb m.taken 256) pumped.fixed)
-          begun (none_waits_fed s side ps grow pumped.side none idle)
-          (ap (fed s) (c.set_nulls.ensures ∙ ap (λ n. bytes (replicate n null_packet)) f.whole)
-          ∙ fed_further s side ps grow pumped.side none (bytes (closing_packets f.settings))) in
+    l.phase f side (fed s (bytes_of c.set_nulls.new.self))
+    (sym c.admit.ensures ∙ c.in_ok-frame.was) (ap (λ m. eqb m.taken 256) pumped.fixed)
+    begun (none_waits side.waits (sym pumped.answers ∙ c.if-pump.false))
+    (ap (fed s) (c.set_nulls.ensures ∙ ap (λ n. bytes (replicate n null_packet)) f.whole)
+    ∙ fed_further s side ps grow pumped.side none (bytes (closing_packets f.settings))) in
     record {
       fixed = pumped.fixed;
       does = did;

@@ -4,7 +4,7 @@ use Rattle.stage.specs.Rule.{Under}
 use Rattle.stage.specs.Model.{Sending, fed}
 use Rattle.stage.proofs.Waits.{none_waits}
 use Rattle.line.specs.View.{bytes_of, side_of}
-use Rattle.line.proofs.Calling.{packet_does, none_waits_fed, fed_further}
+use Rattle.line.proofs.Calling.{packet_does, fed_further}
 use Rattle.broadcast.proofs.All.{line_continues}
 use Rattle.std.proofs.ByRecursion.{All-from_get_or}
 use Rattle.line.proofs.Line.packet.Goals as goal
@@ -37,16 +37,15 @@ returns g c =
     let s : Sending = p.sending c.pump.new.self.pile in
     let ps = bytes_of c.pump.new.self.pending in
     let side : Sending = side_of p.sending l.feed in
-    let idle : s.waits ≡ [] = none_waits s.waits (sym pumped.answers ∙ c.if-pump.false) in
-    let none : ps ≡ [] = pumped.settled idle in
+    let none : ps ≡ [] = pumped.none c.if-pump.false in
     let grow = g.met.P.Stage.sends c.pump.new.self.pile in
     let whole : length xs ≡ 188 = omega arith in
     let sync : get_or xs 0 0 ≡ 0x47 = omega arith in
     let did = packet_does (p.model l.feed.pile) xs whole sync (eqb (p.model l.feed.pile).taken 256) (eqb (p.model c.pump.new.self.pile).taken 256)
-          l.phase c.in_ok-frame.frame c.counted.result side (fed s (bytes_of c.set_packet.new.self))
-          (sym c.admit.ensures ∙ c.in_ok-frame.was) (ap (λ m. eqb m.taken 256) pumped.fixed)
-          (none_waits_fed s side ps grow pumped.side none idle) c.counted.ensures.settings c.counted.ensures.begun
-          (ap (fed s) c.set_packet.ensures ∙ fed_further s side ps grow pumped.side none xs) in
+    l.phase c.in_ok-frame.frame c.counted.result side (fed s (bytes_of c.set_packet.new.self))
+    (sym c.admit.ensures ∙ c.in_ok-frame.was) (ap (λ m. eqb m.taken 256) pumped.fixed)
+    (none_waits side.waits (sym pumped.answers ∙ c.if-pump.false)) c.counted.ensures.settings c.counted.ensures.begun
+    (ap (fed s) c.set_packet.ensures ∙ fed_further s side ps grow pumped.side none xs) in
     record {
       fixed = pumped.fixed;
       does = did;

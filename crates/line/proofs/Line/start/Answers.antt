@@ -4,7 +4,7 @@ use Rattle.refusal.specs.declared.Refusal.{Refusal}
 use Rattle.refusal.specs.Numbers.{refused_by}
 use Rattle.stage.specs.Model.{Sending, fed}
 use Rattle.stage.proofs.Feeding.{fed_none}
-use Rattle.line.specs.View.{done_by, outcome, bytes_of, phase_of, seen, side_of}
+use Rattle.line.specs.View.{done_by, outcome, phase_of, seen, side_of}
 use Rattle.line.proofs.Calling.{start_does, start_refuses}
 use Rattle.broadcast.proofs.All.{line_continues}
 use Rattle.line.proofs.Line.start.Goals as goal
@@ -23,8 +23,8 @@ returns-in_err-settings g c =
     let out = err_from_is_err_and c.from_residual.result c.from_residual.ensures.1 in
     let is : c.from_residual.result ≡ Err why = out.1 ∙ ap Err out.2 in
     let did = ap (λ r. outcome (done_by r) [] (seen q side)) is
-          ∙ start_refuses m c.args.codes.now why q side
-          (sym c.phase.ensures ∙ c.in-Idle.is) (sym (ap refused_by c.in_err-settings.was) ∙ c.fit.ensures.checks) in
+    ∙ start_refuses m c.args.codes.now why q side
+    (sym c.phase.ensures ∙ c.in-Idle.is) (sym (ap refused_by c.in_err-settings.was) ∙ c.fit.ensures.checks) in
     record {
       fixed = refl;
       does = did;
@@ -39,12 +39,12 @@ returns g c =
     let m = p.model l.feed.pile in
     let s : Sending = p.sending c.renew.new.self.pile in
     let did = start_does m c.args.codes.now c.in_ok-settings.settings (phase_of (eqb m.taken 256) l.phase) (p.model c.renew.new.self.pile).taken
-          c.new.result (side_of p.sending l.feed) (side_of p.sending c.renew.new.self)
-          (sym c.phase.ensures ∙ c.in-Idle.is) (ap (λ m. m.taken) c.renew.ensures.fixed)
-          c.in_ok-settings.ensures.settings
-          (sym c.fit.ensures.checks ∙ ap refused_by c.in_ok-settings.was)
-          c.new.ensures.settings c.new.ensures.begun
-          (ap (fed s) c.renew.ensures.none ∙ fed_none s (g.met.P.Stage.sends c.renew.new.self.pile) ∙ c.renew.ensures.sends) in
+    c.new.result (side_of p.sending l.feed) (side_of p.sending c.renew.new.self)
+    (sym c.phase.ensures ∙ c.in-Idle.is) (ap (λ m. m.taken) c.renew.ensures.fixed)
+    c.in_ok-settings.ensures.settings
+    (sym c.fit.ensures.checks ∙ ap refused_by c.in_ok-settings.was)
+    c.new.ensures.settings c.new.ensures.begun
+    (ap (fed s) c.renew.ensures.none ∙ fed_none s (g.met.P.Stage.sends c.renew.new.self.pile) ∙ c.renew.ensures.sends) in
     record {
       fixed = c.renew.ensures.fixed;
       does = did;

@@ -1,4 +1,4 @@
-use Rattle.std.proofs.Common.{◌≡◌, ◌+◌, ◌≤◌, [], ◌++◌, length, drop, replicate, sym, refl, ap, ◌∙◌, arith}
+use Rattle.std.proofs.Common.{◌≡◌, ◌+◌, [], ◌++◌, length, drop, replicate, sym, refl, ap, ◌∙◌, arith}
 use Rattle.stage.specs.Model.{Sending, fed}
 use Rattle.stage.proofs.Passing.{gives_of, gives_then, room_left, passes_of}
 use Rattle.broadcast.specs.Calls.{bytes, null_packet}
