@@ -1,7 +1,8 @@
 -- The calls of a receiver, from what their checks have found.
-use Rattle.std.proofs.Common.{◌≡◌, ℕ, ◌<◌, Bool, true, false, cond, not, eqb, ltb, List, [], ◌∷◌, ◌++◌, length, get_or, take, is_some as option_is_some, Some, None, Ok, Err, Option, sym, refl, ap, ◌∙◌, ap₂, arith, length-append}
+use Rattle.std.proofs.Common.{◌≡◌, ℕ, ◌<◌, Bool, true, false, cond, not, eqb, ltb, List, [], ◌∷◌, ◌++◌, length, get_or, take, is_some as option_is_some, Some, None, Ok, Err, Option, Result, sym, refl, ap, ◌∙◌, ap₂, arith, length-append}
 use Rattle.std.proofs.lemmas.List.{append-nil, take_at, drop_at, get_or_append_left}
 use Rattle.std.proofs.lemmas.Bool.{lt-ltb, le-ltb, eq-eqb}
+use Rattle.std.specs.Result.{result_unwrap_or}
 use Rattle.stage.specs.declared.Fault.{Fault}
 use Rattle.stage.specs.Model.{Heard, Model, Receiving, silence, told, heard, some_heard, after_heard, new_receiving}
 use Rattle.stage.proofs.Offers.{offer_heard}
@@ -18,18 +19,22 @@ use Rattle.broadcast.specs.ReceiverSteps as steps
 use Rattle.broadcast.specs.ReceiverSteps.{handing, handed}
 use Rattle.broadcast.proofs.Deciding.{start-accepted, start-refused}
 use Rattle.receiver.specs.View.{held, found, none_or, tuned_by, outcome, done_by}
-use Rattle.receiver.proofs.Gathering.{not_ok}
 
 -- what was found is what is next
-pub found_is : (h : Heard) (b : Bool) → found h ≡ Ok b → b ≡ is_some (next h)
-found_is h b e = go (ltb (length h.units) 188) (eqb (get_or h.units 0 0) 0x47) h.fault b e
+pub found_is : (h : Heard) → result_unwrap_or (found h) true ≡ is_some (next h)
+found_is h = go (ltb (length h.units) 188) (eqb (get_or h.units 0 0) 0x47) h.fault
   where
-    go : (l s : Bool) (f : Option Fault) (b : Bool) → cond l (none_or f) (Ok true) ≡ Ok b
-        → b ≡ is_some (cond l (fault_next f) (cond s (a_packet (take 188 h.units)) (a_fault (record { stage = 0; cause = 5 }))))
-    go true s None b e = cc
-    go true s (Some f) b e = not_ok e
-    go false true f b e = cc
-    go false false f b e = cc
+    go : (l s : Bool) (f : Option Fault) → result_unwrap_or (cond l (none_or f) (Ok true)) true
+        ≡ is_some (cond l (fault_next f) (cond s (a_packet (take 188 h.units)) (a_fault (record { stage = 0; cause = 5 }))))
+    go true s None = refl
+    go true s (Some f) = refl
+    go false true f = refl
+    go false false f = refl
+
+pub ok_false : (r : Result Bool Fault) → result_unwrap_or r true ≡ false → r ≡ Ok false
+ok_false (Ok true) e = let z : ◌≡◌ {A = ℕ} 0 1 = cc in absurd (omega arith)
+ok_false (Ok false) e = refl
+ok_false (Err f) e = let z : ◌≡◌ {A = ℕ} 0 1 = cc in absurd (omega arith)
 
 -- it is started
 pub set_to : (o : Option Settings) (b : Bool) → option_is_some o ≡ not b → b ≡ false → (s : Settings) × (o ≡ Some s)
@@ -39,10 +44,9 @@ set_to (Some s) b e f = (s, refl)
 
 module _ (M : Model) (o : Option Settings) (s : Settings) (is : o ≡ Some s) where
   -- a hear that is refused since something waits
-  pub hear_busy : (c : ℕ) (side side' : Receiving) → c < M.given → is_some (next side'.waits) ≡ true → side' ≡ side
+  pub hear_busy : (c : ℕ) (side side' : Receiving) → c < M.given → is_some (next side.waits) ≡ true → side' ≡ side
       → outcome (refused 22) [] (tuned_by o side') ≡ steps.step M (tuned_by o side) (calls.hear c)
-  hear_busy c side side' l b e =
-      let w : is_some (next side.waits) ≡ true = ap (λ r. is_some (next r.waits)) (sym e) ∙ b in
+  hear_busy c side side' l w e =
       ap₂ (λ o r. outcome (refused 22) [] (tuned_by o r)) is e
       ∙ sym (ap₂ (λ a b. unless (check (not a) 21 (check b 22 None)) (steps.tuned s side) []
       (record { answer = done; buffer = []; state = steps.tuned s (told side (c ∷ [])) })) (lt-ltb c M.given l) w)
@@ -64,12 +68,11 @@ module _ (M : Model) (o : Option Settings) (s : Settings) (is : o ≡ Some s) wh
         future = after_heard r.future (c ∷ []);
       }
 
-  pub hear_does : (c n : ℕ) (us : List ℕ) (side r r' : Receiving) → c < M.given → n ≡ M.given → is_some (next (held us r).waits) ≡ false
+  pub hear_does : (c n : ℕ) (us : List ℕ) (side r r' : Receiving) → c < M.given → n ≡ M.given → is_some (next side.waits) ≡ false
       → held us r ≡ side → r.waits ≡ silence → r' ≡ heard (ltb c n) (some_heard r.waits) r c
       → outcome done [] (tuned_by o (held us r')) ≡ steps.step M (tuned_by o side) (calls.hear c)
-  hear_does c n us side r r' l k b e w q =
+  hear_does c n us side r r' l k free e w q =
       let m : c < n = omega arith in
-      let free : is_some (next side.waits) ≡ false = ap (λ r. is_some (next r.waits)) (sym e) ∙ b in
       ap₂ (λ o r. outcome done [] (tuned_by o r)) is (told-held c n us r r' m w q ∙ ap (λ r. told r (c ∷ [])) e)
       ∙ sym (ap₂ (λ a b. unless (check (not a) 21 (check b 22 None)) (steps.tuned s side) []
       (record { answer = done; buffer = []; state = steps.tuned s (told side (c ∷ [])) })) (lt-ltb c M.given l) free)

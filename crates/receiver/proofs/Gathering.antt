@@ -1,7 +1,7 @@
 -- A unit is gathered from the pile: nothing of what the receiver holds alters.
-use Rattle.std.proofs.Common.{◌≡◌, ℕ, ◌<◌, ◌≤◌, Bool, true, false, cond, List, [], ◌∷◌, ◌++◌, length, Some, Ok, Err, Result, sym, ap, ◌∙◌, ap₂, arith, length-append}
+use Rattle.std.proofs.Common.{◌≡◌, ℕ, ◌<◌, ◌≤◌, Bool, true, false, cond, eqb, List, [], ◌∷◌, ◌++◌, length, Some, Ok, Err, Result, sym, ap, ◌∙◌, ap₂, arith, length-append}
 use Rattle.std.proofs.lemmas.List.{append_assoc}
-use Rattle.std.proofs.lemmas.Bool.{lt-ltb, le-ltb}
+use Rattle.std.proofs.lemmas.Bool.{lt-ltb, le-ltb, eqb-true, eqb-false}
 use Rattle.stage.specs.declared.Fault.{Fault}
 use Rattle.stage.specs.Model.{Heard, Receiving, others, first_heard, collected, silence}
 use Rattle.stage.proofs.Waits.{unit-heard, fault_heard}
@@ -25,6 +25,12 @@ short : (us : List ℕ) (h : Heard) → length us < 188 → h.units ≡ [] → f
 short us h l e =
     let k : length (us ++ h.units) < 188 = omega (arith, length-append us h.units, ap length e) in
     ap (λ b. cond b (none_or h.fault) (Ok true)) (lt-ltb (length (us ++ h.units)) 188 k)
+
+pub not_full : (us : List ℕ) (b : Bool) → b ≡ eqb (length us) 188 → length us ≤ 188 → b ≡ false → length us < 188
+not_full us b e l f = let n = eqb-false (length us) 188 (sym e ∙ f) in omega (arith, n)
+
+pub full : (us : List ℕ) (b : Bool) → b ≡ eqb (length us) 188 → b ≡ true → length us ≡ 188
+full us b e t = eqb-true (length us) 188 (sym e ∙ t)
 
 pub found_none : (us : List ℕ) (h : Heard) → length us < 188 → h ≡ silence → found (record { units = us ++ h.units; fault = h.fault }) ≡ Ok false
 found_none us h l e = short us h l (ap (λ h. h.units) e) ∙ ap (λ h. none_or h.fault) e

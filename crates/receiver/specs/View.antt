@@ -1,5 +1,5 @@
 -- What the receiver's own state means, and what its answers are.
-use Rattle.std.specs.Prelude.{◌≡◌, ℕ, Bool, true, false, cond, List, ◌++◌, length, take, Some, None, Ok, Err, Option, Result, nat_lt}
+use Rattle.std.specs.Prelude.{◌≡◌, ℕ, Bool, true, false, cond, List, ◌++◌, length, Some, None, Ok, Err, Option, Result, nat_lt}
 use Rattle.refusal.specs.declared.Refusal.{Refusal}
 use Rattle.refusal.specs.Numbers.{number_of}
 use Rattle.settings.specs.declared.Settings.{Settings}
@@ -9,7 +9,7 @@ use Rattle.broadcast.specs.Calls.{Answer, refused, failed, done, counted}
 use Rattle.broadcast.specs.Steps.{Outcome}
 use Rattle.broadcast.specs.Receiver as calls
 use Rattle.broadcast.specs.ReceiverSteps as steps
-use Rattle.receiver.specs.declared.gathered.Gathered.{Gathered}
+use Rattle.receiver.specs.declared.gatherer.Gatherer.{Gatherer}
 use Rattle.receiver.specs.declared.missed.Missed.{Missed}
 use Rattle.receiver.specs.declared.missed.Missed.TheVariants.{Refused, Failed}
 use Rattle.receiver.specs.declared.Receiver.{Receiver}
@@ -27,13 +27,13 @@ collected_by (Err (Failed f)) = failed f
 abbrev pub outcome : Answer → List ℕ → steps.Receiver → Outcome steps.Receiver
 outcome a b r = record { answer = a; buffer = b; state = r }
 
--- the bytes that were gathered
-abbrev pub units_of : Gathered → List ℕ
-units_of g = take g.count g.packet
-
 -- the pile's side, before which units were gathered
 abbrev pub held : List ℕ → Receiving → Receiving
 held us s = record { waits = record { units = us ++ s.waits.units; fault = s.waits.fault }; future = s.future }
+
+-- the pile's receiving side as the receiver has it
+abbrev pub side_of : {P : Type 0} → (P → Receiving) → Gatherer P → Receiving
+side_of receiving g = held g.packet.items (receiving g.pile)
 
 -- is a packet whole? If not, a fault may wait.
 abbrev pub none_or : Option Fault → Result Bool Fault
@@ -49,12 +49,12 @@ tuned_by (Some s) side = steps.tuned s side
 
 -- a receiver, as its calls know it
 abbrev pub view : {P : Type 0} → (P → Receiving) → Receiver P → steps.Receiver
-view receiving r = tuned_by r.settings (held (units_of r.gathered) (receiving r.pile))
+view receiving r = tuned_by r.settings (side_of receiving r.gatherer)
 
 -- What a call on the receiver r has done, once the receiver is r': its answer, its buffer and the receiver are those of the call's step.
 abbrev pub Does : {P : Type 0} → (P → Model) → (P → Receiving) → Receiver P → Receiver P → calls.Call → Answer → List ℕ → Type 0
-Does model receiving r r' c a b = outcome a b (view receiving r') ≡ steps.step (model r.pile) (view receiving r) c
+Does model receiving r r' c a b = outcome a b (view receiving r') ≡ steps.step (model r.gatherer.pile) (view receiving r) c
 
 -- The call continues every succession that the receiver has gone through.
 abbrev pub Continues : {P : Type 0} → (P → Model) → (P → Receiving) → Receiver P → Receiver P → calls.Call → Answer → List ℕ → Type 0
-Continues model receiving r r' c a b = steps.Continues (model r.pile) (view receiving r) c (outcome a b (view receiving r'))
+Continues model receiving r r' c a b = steps.Continues (model r.gatherer.pile) (view receiving r) c (outcome a b (view receiving r'))
