@@ -1,5 +1,5 @@
 -- What holds of broadcasts over every pile of stages, in one, and what the machines of line and receiver go.
-use Rattle.std.proofs.Common.{◌≡◌, List, [], ◌∷◌, ◌++◌, sym, refl, subst}
+use Rattle.std.proofs.Common.{◌≡◌, List, [], ◌∷◌, sym, refl}
 use Rattle.std.specs.List.{AllByRecursion}
 use Rattle.tps.specs.Laws.{BlocksTellSettings}
 use Rattle.stage.specs.Model.{Model}
@@ -7,12 +7,12 @@ use Rattle.stage.specs.Rule.{Rule, Same}
 use Rattle.stage.proofs.PilingRule.{piled_rule}
 use Rattle.broadcast.specs.Line.{Call, Typed, Follows}
 use Rattle.broadcast.specs.Receiver as receiver_calls
-use Rattle.broadcast.specs.Steps.{Outcome, event}
+use Rattle.broadcast.specs.Steps.{Outcome}
 use Rattle.broadcast.specs.LineSteps as line_steps
 use Rattle.broadcast.specs.ReceiverSteps as receiver_steps
 use Rattle.broadcast.specs.Claims.{BroadcastsHold, HoldsOver, over_pile}
 use Rattle.broadcast.specs.Exactly.{StepsGoSuccessions}
-use Rattle.broadcast.proofs.Going.{succession_none, runs, only, continues}
+use Rattle.broadcast.proofs.Going.{succession_none, runs, only, continues_by}
 use Rattle.broadcast.proofs.LineRuns as line
 use Rattle.broadcast.proofs.ReceiverRuns as receiver
 use Rattle.broadcast.proofs.Broadcasts.{broadcasts_are_the_piles}
@@ -59,14 +59,11 @@ line_begins M l e = record { in_order = succession_none (Follows M); leads = sym
 
 pub line_continues : (M : Model) → Rule M → (l : line_steps.Line) (c : Call) (o : Outcome line_steps.Line) → Typed c → o ≡ line_steps.step M l c
     → line_steps.Continues M l c o
-line_continues M m l c o t e es w =
-    subst (λ (x : Outcome line_steps.Line). line_steps.GoneThrough M (es ++ (event c x ∷ [])) x.state) (sym e) (continues (line.answering M m) es l c t w)
+line_continues M m l c o t e = continues_by (line.answering M m) l c o t e
 
 pub receiver_begins : (M : Model) (r : receiver_steps.Receiver) → r ≡ receiver_steps.idle → receiver_steps.GoneThrough M [] r
 receiver_begins M r e = record { in_order = succession_none (receiver_calls.Follows M); leads = sym e }
 
 pub receiver_continues : (M : Model) → Rule M → (r : receiver_steps.Receiver) (c : receiver_calls.Call) (o : Outcome receiver_steps.Receiver)
     → o ≡ receiver_steps.step M r c → receiver_steps.Continues M r c o
-receiver_continues M m r c o e es w =
-    subst (λ (x : Outcome receiver_steps.Receiver). receiver_steps.GoneThrough M (es ++ (event c x ∷ [])) x.state) (sym e)
-    (continues (receiver.answering M m) es r c tt w)
+receiver_continues M m r c o e = continues_by (receiver.answering M m) r c o tt e

@@ -2,6 +2,7 @@
 use Rattle.std.proofs.Common.{◌≡◌, ℕ, ◌%◌, Bool, true, List, [], ◌∷◌, ◌++◌, length, sym, ap, ◌∙◌, arith}
 use Rattle.std.specs.List.{flat_map}
 use Rattle.std.proofs.lemmas.List.{append-nil}
+use Rattle.std.proofs.lemmas.Grind.{flat_map-append}
 use Rattle.settings.specs.declared.Settings.{Settings}
 use Rattle.stage.specs.Model.{Model}
 use Rattle.settings.specs.SuperFrame.{super_frame_packets}
@@ -10,7 +11,6 @@ use Rattle.broadcast.specs.Line.{closed_by, Standing}
 use Rattle.broadcast.specs.Steps.{state_after}
 use Rattle.broadcast.specs.LineSteps.{Line, idle, opened, closing, step}
 use Rattle.broadcast.specs.Claims.{Transmission, Sound, HasBroadcast, settings, packets, cells, all_packets, BroadcastsAreThePiles}
-use Rattle.broadcast.proofs.Packets.{bytes_append}
 use Rattle.broadcast.proofs.Going.{known}
 use Rattle.broadcast.proofs.LineRuns.{Accepted, Reached, stands, is_standing, answering}
 
@@ -52,5 +52,5 @@ broadcasts_are_the_piles r k h =
     let w = whole r k h in
     record {
       one_start = (w.set, w.took.one);
-      from_pile = w.gave ∙ sym (ap r.over.sends (ap bytes (all_are r w.set w.took.one) ∙ bytes_append (packets r) (closing_packets w.set)));
+      from_pile = w.gave ∙ sym (ap r.over.sends (ap bytes (all_are r w.set w.took.one) ∙ flat_map-append (λ (x : List ℕ). x) (packets r) (closing_packets w.set)));
     }

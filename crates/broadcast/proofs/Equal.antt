@@ -51,8 +51,8 @@ sent-length s ps a =
     omega (
       arith,
       length-append (bytes ps) (bytes (closing_packets s)),
-      bytes_length ps a,
-      bytes_length (closing_packets s) (closing_are_packets s),
+      bytes_length (λ p k. k.whole) ps a,
+      bytes_length (λ p k. k.whole) (closing_packets s) (closing_are_packets s),
       length-replicate (super_frame_packets s) null_packet,
     )
 
@@ -89,8 +89,8 @@ module _ (M : Model) (m : Rule M) (s : Settings) (f : Fit M s) where
       let one = multiples (super_frame_packets s) (length ps) (length qs) c d near in
       let two = multiples (super_frame_packets s) (length qs) (length ps) d c near' in
       let n : length ps ≡ length qs = omega arith in
-      let pl = bytes_length ps a in
-      let ql = bytes_length qs b in
+      let pl = bytes_length (λ p k. k.whole) ps a in
+      let ql = bytes_length (λ p k. k.whole) qs b in
       let u = begins_both (bytes ps) h.units (bytes ps ++ end) (end, refl) x.begins (omega arith) in
       let v = begins_both (bytes qs) h.units (bytes qs ++ end) (end, refl) y.begins (omega arith) in
       packets_same ps qs a b n (begins_same (bytes ps) (bytes qs) h.units u v (omega arith))

@@ -1,6 +1,7 @@
 -- A machine that answers by what was accepted goes exactly the successions.
 use Rattle.std.proofs.Common.{◌≡◌, ℕ, List, [], ◌∷◌, ◌++◌, sym, refl, ap, ◌∙◌, subst, append_assoc, append-nil, arith}
 use Rattle.std.specs.List.{AllByRecursion}
+use Rattle.std.proofs.lemmas.List.{map-append}
 use Rattle.broadcast.specs.Calls.{Event, calls_of, SuccessionBy}
 use Rattle.broadcast.specs.Steps.{Outcome, event, run, state_after, Went}
 
@@ -13,10 +14,6 @@ state_push : {S C : Type 0} (step : S → C → Outcome S) (s : S) (cs : List C)
     → state_after step s (cs ++ (c ∷ [])) ≡ (step (state_after step s cs) c).state
 state_push step s [] c = refl
 state_push step s (k ∷ cs) c = state_push step (step s k).state cs c
-
-calls_push : {C : Type 0} (es : List (Event C)) (e : Event C) → calls_of (es ++ (e ∷ [])) ≡ calls_of es ++ (e.call ∷ [])
-calls_push [] e = refl
-calls_push (d ∷ es) e = ap (λ (w : List _). d.call ∷ w) (calls_push es e)
 
 module _ {C : Type 0} (Follows : List (Event C) → Event C → Type 0) where
   -- the events of es follow, after those of pre
@@ -97,7 +94,7 @@ module _ {C S : Type 0} {Follows : List (Event C) → Event C → Type 0} {step 
     known es k = (only_from [] new es g.starts k).1
 
     -- one call more
-    pub continues : (es : List (Event C)) (s : S) (c : C) → Typed c → Went step new Follows es s
+    continues : (es : List (Event C)) (s : S) (c : C) → Typed c → Went step new Follows es s
         → Went step new Follows (es ++ (event c (step s c) ∷ [])) (step s c).state
     continues es s c t w =
         let i = subst (Inv es) w.leads (known es w.in_order) in
@@ -105,7 +102,13 @@ module _ {C S : Type 0} {Follows : List (Event C) → Event C → Type 0} {step 
         record {
           in_order = succession_push Follows es e w.in_order (g.does es s c t i);
           leads =
-              ap (state_after step new) (calls_push es e)
+              ap (state_after step new) (map-append (λ (x : Event C). x.call) es (e ∷ []))
               ∙ state_push step new (calls_of es) c
               ∙ ap (λ (x : S). (step x c).state) w.leads;
         }
+
+    -- with an outcome that is the step's
+    pub continues_by : (s : S) (c : C) (o : Outcome S) → Typed c → o ≡ step s c → (es : List (Event C)) → Went step new Follows es s
+        → Went step new Follows (es ++ (event c o ∷ [])) o.state
+    continues_by s c o t e es w =
+        subst (λ (x : Outcome S). Went step new Follows (es ++ (event c x ∷ [])) x.state) (sym e) (continues es s c t w)

@@ -1,6 +1,7 @@
 -- What a receiver hands out, of a broadcast that it hears.
 use Rattle.std.proofs.Common.{◌≡◌, ℕ, ◌-◌, ◌<◌, ◌≤◌, Bool, true, false, cond, not, eqb, ltb, List, [], ◌∷◌, ◌++◌, length, get_or, take, Some, None, Option, sym, refl, ap, ◌∙◌, subst, arith, length-append}
 use Rattle.std.specs.List.{flat_map, AllByRecursion}
+use Rattle.std.proofs.lemmas.Grind.{flat_map-append}
 use Rattle.std.proofs.lemmas.Bool.{ltb-false, lt-ltb, eq-eqb}
 use Rattle.std.proofs.lemmas.List.{append_assoc}
 use Rattle.std.proofs.ByRecursion.{All-append}
@@ -14,7 +15,7 @@ use Rattle.broadcast.specs.Receiver.{Call, start, hear, collect, heard_by, heard
 use Rattle.broadcast.specs.Steps.{state_after}
 use Rattle.broadcast.specs.ReceiverSteps.{idle, step}
 use Rattle.broadcast.specs.Claims.{settings, packets, cells, all_packets, heard, collected, hear_answer, ReceiversRecover}
-use Rattle.broadcast.proofs.Packets.{Packet, bytes_append, closing_are_packets}
+use Rattle.broadcast.proofs.Packets.{Packet, closing_are_packets}
 use Rattle.broadcast.proofs.Going.{succession_front, known}
 use Rattle.broadcast.proofs.Broadcasts.{Whole, whole, all_are}
 use Rattle.broadcast.proofs.Equal.{claims, sent-length, sent_below}
@@ -55,12 +56,6 @@ module _ (u : List ℕ) where
       let k = begins_length ((g ++ bytes gs) ++ u) [] p in
       absurd (omega (arith, a.0, length-append (g ++ bytes gs) u, length-append g (bytes gs)))
   next_sync (g ∷ gs) (q ∷ qs) a b p k = next_sync gs qs a.1 b.1 (next_front g q u gs qs a.0 b.0.whole p).1 k
-
-heard-append : (es ds : List (Event Call)) → heard_of (es ++ ds) ≡ heard_of es ++ heard_of ds
-heard-append [] ds = refl
-heard-append (e ∷ es) ds =
-    ap (λ (w : List ℕ). heard_by e.call e.answer ++ w) (heard-append es ds)
-    ∙ sym (append_assoc (heard_by e.call e.answer) (heard_of es) (heard_of ds))
 
 -- what is so of each element is so of all
 all_each : {X : Type 0} (P : X → Type 0) (xs : List X) → ((before : List X) (x : X) (later : List X) → xs ≡ before ++ (x ∷ later) → P x) → AllByRecursion P xs
@@ -115,7 +110,7 @@ module _ (M : Model) (m : Rule M) (cs : List ℕ) (qs : List (List ℕ)) (sent :
   no_fault_at : (es : List (Event Call)) → Succession M es → Begins (heard_of es) cs
       → (before : List (Event Call)) (e : Event Call) (later : List (Event Call)) → es ≡ before ++ (e ∷ later) → Faultless e.answer
   no_fault_at es k p before e later q =
-      let front : Begins (heard_of before) (heard_of es) = (heard_of (e ∷ later), ap heard_of q ∙ heard-append before (e ∷ later)) in
+      let front : Begins (heard_of before) (heard_of es) = (heard_of (e ∷ later), ap heard_of q ∙ flat_map-append (λ (x : Event Call). heard_by x.call x.answer) before (e ∷ later)) in
       let free = no_fault_next before (succession_front (Follows M) es before (e ∷ later) q k) (begins_trans (heard_of before) (heard_of es) cs front p) in
       subst Faultless (sym (k before e later q).answer_is)
       (faultless_answer (refusal M (standing M before) e.call) (accepted (standing M before) e.call) (faultless_accepted before e.call free))
@@ -174,7 +169,7 @@ receivers_recover r t k j h a = record {
     sent_bytes = bytes (packets r) ++ bytes (closing_packets w.set)
 
     bytes_are : bytes (all_packets r) ≡ sent_bytes
-    bytes_are = ap bytes (all_are r w.set w.took.one) ∙ bytes_append (packets r) (closing_packets w.set)
+    bytes_are = ap bytes (all_are r w.set w.took.one) ∙ flat_map-append (λ (x : List ℕ). x) (packets r) (closing_packets w.set)
 
     taken : Under M.taken sent_bytes
     taken = sent_below M w.set w.took.fit (packets r) w.took.are_packets

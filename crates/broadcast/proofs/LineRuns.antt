@@ -3,7 +3,10 @@
 use Rattle.std.proofs.Common.{◌≡◌, ℕ, ◌+◌, ◌%◌, Bool, true, false, cond, not, ◌||◌, eqb, List, [], ◌∷◌, ◌++◌, length, get_or, take, drop, Some, None, Ok, Err, Option, Result, sym, refl, ap, ◌∙◌, subst, arith, take-append-drop, length-take}
 use native.Mathlib.Nat.{zero-mod, mod-add-mod}
 use Rattle.std.specs.List.{flat_map, AllByRecursion}
+use Rattle.std.proofs.Math.Bool.{or-false, or-true}
 use Rattle.std.proofs.lemmas.Bool.{eqb-true, not-false}
+use Rattle.std.proofs.lemmas.Grind.{flat_map-append}
+use Rattle.std.proofs.lemmas.List.Recursion.{or_push}
 use Rattle.std.proofs.lemmas.List.{append-nil, append_assoc, take_at, drop_at, length_push, flat_map_more}
 use Rattle.std.proofs.ByRecursion.{All-push}
 use Rattle.refusal.specs.declared.Refusal.{Refusal}
@@ -22,7 +25,7 @@ use Rattle.broadcast.specs.Line.{Call, start, packet, cells, close, tps, setting
 use Rattle.broadcast.specs.Steps.{Outcome, refuse, unless, starting, event}
 use Rattle.broadcast.specs.LineSteps.{Line, idle, opened, closing, started, packet_checks, close_checks, step}
 use Rattle.broadcast.proofs.Deciding.{Decided, decided, start_decided}
-use Rattle.broadcast.proofs.Packets.{Packet, Fit, check_none, fit_since, read_identifier, bytes_append, bytes_push}
+use Rattle.broadcast.proofs.Packets.{Packet, Fit, check_none, fit_since, read_identifier}
 use Rattle.broadcast.proofs.Going.{Answering}
 
 -- the side was fed xs, and ys of what it gave for that were taken away
@@ -63,23 +66,8 @@ moved M l {ss} {ss'} {ps} {ps'} {ys} {ys'} {b} {b'} e f g h r =
     (subst (λ (w : List ℕ). Reached M l ss ps w b') g
     (subst (λ (w : Bool). Reached M l ss ps ys w) h r)))
 
-or_false : (b : Bool) → b ≡ (b || false)
-or_false true = refl
-or_false false = refl
-
-or_true : (b : Bool) → (b || true) ≡ true
-or_true true = refl
-or_true false = refl
-
-or_assoc : (a b c : Bool) → ((a || b) || c) ≡ (a || (b || c))
-or_assoc true b c = refl
-or_assoc false b c = refl
-
 closed_push : (es : List (Event Call)) (e : Event Call) → (closed_by es || closes_by e.call e.answer) ≡ closed_by (es ++ (e ∷ []))
-closed_push [] e = or_false (closes_by e.call e.answer)
-closed_push (d ∷ es) e =
-    or_assoc (closes_by d.call d.answer) (closed_by es) (closes_by e.call e.answer)
-    ∙ ap (λ (b : Bool). closes_by d.call d.answer || b) (closed_push es e)
+closed_push es e = sym (or_push closed_by (λ (x : Event Call). closes_by x.call x.answer) refl (λ x xs. refl) es e)
 
 module _ (M : Model) (m : Rule M) where
   fed_new : Fed M [] [] (new_sending M)
@@ -122,10 +110,10 @@ module _ (M : Model) (m : Rule M) where
 
     -- a call that adds nothing but cells
     wrote : (l : Line) (zs : List ℕ) → Reached M l ss ps (ys ++ zs) b → Reached M l (ss ++ []) (ps ++ []) (ys ++ zs) (b || false)
-    wrote l zs r = moved M l (sym (append-nil ss)) (sym (append-nil ps)) refl (or_false b) r
+    wrote l zs r = moved M l (sym (append-nil ss)) (sym (append-nil ps)) refl (sym (or-false b)) r
 
     kept : (l : Line) → Reached M l ss ps ys b → Reached M l (ss ++ []) (ps ++ []) (ys ++ []) (b || false)
-    kept l r = moved M l (sym (append-nil ss)) (sym (append-nil ps)) (sym (append-nil ys)) (or_false b) r
+    kept l r = moved M l (sym (append-nil ss)) (sym (append-nil ps)) (sym (append-nil ys)) (sym (or-false b)) r
 
     refuses : (c : Call) (number : ℕ) (l : Line) (buffer : List ℕ) → Reached M l ss ps ys b → Leads c (refuse number l buffer)
     refuses (start c) number l buffer r = kept l r
@@ -145,7 +133,7 @@ module _ (M : Model) (m : Rule M) where
     start_leads c (Ok s) q i r =
         checked (start c) (unfit_pile M s) idle [] (record { answer = done; buffer = []; state = started M s }) r (λ e.
         moved M (opened s 0 (new_sending M)) (sym (ap meant q) ∙ ap (λ (w : List Settings). w ++ meant (settings_read c)) (sym r.0))
-        (sym r.1 ∙ sym (append-nil ps)) (sym r.2 ∙ sym (append-nil ys)) (sym r.3 ∙ or_false b)
+        (sym r.1 ∙ sym (append-nil ps)) (sym r.2 ∙ sym (append-nil ys)) (sym r.3 ∙ sym (or-false b))
         (record {
           took = record { one = refl; identified = subst Identifier (read_identifier c s q) i; fit = fit_since M s e; are_packets = tt };
           count = sym (zero-mod (super_frame_packets s));
@@ -166,14 +154,14 @@ module _ (M : Model) (m : Rule M) where
         }
         in
         let old = r.took in
-        moved M (opened s ((n + 1) % super_frame_packets s) (fed side p)) (sym (append-nil ss)) refl (sym (append-nil ys)) (or_false b)
+        moved M (opened s ((n + 1) % super_frame_packets s) (fed side p)) (sym (append-nil ss)) refl (sym (append-nil ys)) (sym (or-false b))
         (record {
           took = record { one = old.one; identified = old.identified; fit = old.fit; are_packets = All-push Packet ps p old.are_packets is };
           count =
               ap (λ (k : ℕ). (k + 1) % super_frame_packets s) r.count
               ∙ mod-add-mod (length ps) (super_frame_packets s) 1
               ∙ sym (ap (λ (k : ℕ). k % super_frame_packets s) (length_push ps p));
-          feeds = subst (λ (w : List ℕ). Fed M w ys (fed side p)) (sym (bytes_push ps p)) (fed-more (bytes ps) ys p side r.feeds);
+          feeds = subst (λ (w : List ℕ). Fed M w ys (fed side p)) (flat_map_more (λ (x : List ℕ). x) [] ps p) (fed-more (bytes ps) ys p side r.feeds);
           not_closed = r.not_closed;
         })
 
@@ -181,7 +169,7 @@ module _ (M : Model) (m : Rule M) where
         → Leads close (record { answer = done; buffer = []; state = closing s (fed side (bytes (closing_packets s))).waits })
     close_leads s n side r e =
         let w = check_none (not (eqb n 0)) 33 _ e in
-        moved M (closing s (fed side (bytes (closing_packets s))).waits) (sym (append-nil ss)) (sym (append-nil ps)) (sym (append-nil ys)) (sym (or_true b))
+        moved M (closing s (fed side (bytes (closing_packets s))).waits) (sym (append-nil ss)) (sym (append-nil ps)) (sym (append-nil ys)) (sym (or-true b))
         (record {
           took = r.took;
           whole_frames = sym r.count ∙ eqb-true n 0 (not-false (eqb n 0) w.0);
@@ -300,7 +288,7 @@ module _ (M : Model) where
       (λ i. of_accepted (r.took.one i) ps ys (r.is_closed i))
       ∙ same-standing (of_accepted (s ∷ []) ps ys true) (stands (closing s cs)) refl refl r.whole_frames
       (ap (λ (w : List (List ℕ)). drop (length ys) (M.sends (bytes (ps ++ w)))) (append-nil (closing_packets s))
-      ∙ ap (λ (w : List ℕ). drop (length ys) (M.sends w)) (bytes_append ps (closing_packets s))
+      ∙ ap (λ (w : List ℕ). drop (length ys) (M.sends w)) (flat_map-append (λ (x : List ℕ). x) ps (closing_packets s))
       ∙ ap (drop (length ys)) (sym r.gave)
       ∙ drop_at ys cs (length ys) refl
       )

@@ -1,8 +1,8 @@
 -- Packets and their bytes, and what start has checked.
-use Rattle.std.proofs.Common.{◌≡◌, ℕ, zero, suc, ◌*◌, ◌<◌, ◌≤◌, Bool, true, false, not, ◌||◌, eqb, leb, List, [], ◌∷◌, ◌++◌, length, get_or, replicate, None, Ok, Option, sym, refl, ap, ◌∙◌, mul-le-mul_left, div-le_self, arith, lit<, lit≤, length-append}
+use Rattle.std.proofs.Common.{◌≡◌, ℕ, ◌*◌, ◌<◌, ◌≤◌, Bool, true, false, not, ◌||◌, eqb, leb, List, [], ◌∷◌, length, get_or, replicate, None, Ok, Option, sym, refl, ap, mul-le-mul_left, div-le_self, arith, lit<, lit≤, length-append}
 use Rattle.std.specs.List.{AllByRecursion}
 use Rattle.std.proofs.lemmas.Bool.{eqb-true, leb-false, not-false, or_parts}
-use Rattle.std.proofs.lemmas.List.{append-nil, append_assoc}
+use Rattle.std.proofs.lemmas.List.Elements.{All-replicate, recursion_from_All}
 use Rattle.std.proofs.ByRecursion.{All-append}
 use Rattle.settings.specs.declared.mode.Mode.{Mode}
 use Rattle.settings.specs.declared.mode.Mode.TheVariants.{TwoK, EightK}
@@ -77,38 +77,25 @@ packets_most s =
     let c : super_frame_packets s ≤ n * v * o = div-le_self (n * v * o) (6 * rate_under s.rate) in
     omega (arith, cells_most s.mode)
 
-pub bytes_append : (ps qs : List (List ℕ)) → bytes (ps ++ qs) ≡ bytes ps ++ bytes qs
-bytes_append [] qs = refl
-bytes_append (p ∷ ps) qs = ap (λ (w : List ℕ). p ++ w) (bytes_append ps qs) ∙ sym (append_assoc p (bytes ps) (bytes qs))
-
-pub bytes_push : (ps : List (List ℕ)) (p : List ℕ) → bytes (ps ++ (p ∷ [])) ≡ bytes ps ++ p
-bytes_push ps p = bytes_append ps (p ∷ []) ∙ ap (λ (w : List ℕ). bytes ps ++ w) (append-nil p)
-
 pub bytes_below : (ps : List (List ℕ)) → AllByRecursion Packet ps → Under 256 (bytes ps)
 bytes_below [] h = tt
 bytes_below (p ∷ ps) h = All-append (λ x. x < 256) p (bytes ps) h.0.units (bytes_below ps h.1)
 
-pub bytes_length : (ps : List (List ℕ)) → AllByRecursion Packet ps → length (bytes ps) ≡ 188 * length ps
-bytes_length [] h = refl
-bytes_length (p ∷ ps) h =
-    let w = h.0.whole in
-    let r = bytes_length ps h.1 in
-    omega (arith, length-append p (bytes ps))
+pub bytes_length : {P : List ℕ → Type 0} → ((p : List ℕ) → P p → length p ≡ 188) → (ps : List (List ℕ)) → AllByRecursion P ps → length (bytes ps) ≡ 188 * length ps
+bytes_length whole [] h = refl
+bytes_length whole (p ∷ ps) h =
+    let r = bytes_length whole ps h.1 in
+    omega (arith, whole p h.0, length-append p (bytes ps))
 
-all_replicate : (P : List ℕ → Type 0) (n : ℕ) (p : List ℕ) → P p → AllByRecursion P (replicate n p)
-all_replicate P zero p h = tt
-all_replicate P (suc n) p h = (h, all_replicate P n p h)
-
-below_replicate : (k n x : ℕ) → x < k → Under k (replicate n x)
-below_replicate k zero x h = tt
-below_replicate k (suc n) x h = (h, below_replicate k n x h)
+all_replicate : {X : Type 0} (P : X → Type 0) (n : ℕ) (x : X) → P x → AllByRecursion P (replicate n x)
+all_replicate P n x h = recursion_from_All P (replicate n x) (All-replicate P n x h)
 
 null_is_packet : Packet null_packet
 unfolding null_packet
 null_is_packet = record {
   whole = refl;
   sync = refl;
-  units = (lit< tt, (lit< tt, (lit< tt, (lit< tt, below_replicate 256 184 255 (lit< tt)))));
+  units = (lit< tt, (lit< tt, (lit< tt, (lit< tt, all_replicate (λ x. x < 256) 184 255 (lit< tt)))));
 }
 
 pub closing_are_packets : (s : Settings) → AllByRecursion Packet (closing_packets s)

@@ -1,6 +1,6 @@
 -- A receiver after any succession of calls: the packets that it handed out and the bytes that wait are what the new pile gives for the cells heard, so
 -- that its machine goes exactly the successions.
-use Rattle.std.proofs.Common.{◌≡◌, ℕ, ◌*◌, ◌<◌, ◌≤◌, Bool, true, false, cond, not, eqb, ltb, List, [], ◌∷◌, ◌++◌, length, get_or, take, drop, Some, None, Ok, Err, Option, Result, sym, refl, ap, ◌∙◌, subst, arith, length-append, take-append-drop}
+use Rattle.std.proofs.Common.{◌≡◌, ℕ, ◌*◌, ◌<◌, ◌≤◌, Bool, true, false, cond, not, eqb, ltb, List, [], ◌∷◌, ◌++◌, length, get_or, take, drop, Some, None, Ok, Err, Option, Result, sym, refl, ap, ◌∙◌, subst, arith, take-append-drop}
 use Rattle.std.specs.List.{AllByRecursion}
 use Rattle.std.proofs.lemmas.Bool.{ltb-true, ltb-false}
 use Rattle.std.proofs.lemmas.List.{append-nil, append_assoc, length-take-le, drop_at, flat_map_more}
@@ -19,7 +19,7 @@ use Rattle.broadcast.specs.Receiver.{Call, start, hear, collect, settings_by, he
 use Rattle.broadcast.specs.Steps.{Outcome, refuse, unless, starting, event}
 use Rattle.broadcast.specs.ReceiverSteps.{Receiver, idle, tuned, started, hear_checks, handed, handing, step}
 use Rattle.broadcast.proofs.Deciding.{Decided, decided, start_decided}
-use Rattle.broadcast.proofs.Packets.{check_none, bytes_push}
+use Rattle.broadcast.proofs.Packets.{check_none, bytes_length}
 use Rattle.broadcast.proofs.Going.{Answering}
 
 -- whole packets, whatever they begin with
@@ -27,8 +27,7 @@ abbrev pub Sized : List ℕ → Type 0
 Sized p = length p ≡ 188
 
 pub sized_bytes : (gs : List (List ℕ)) → AllByRecursion Sized gs → length (bytes gs) ≡ 188 * length gs
-sized_bytes [] a = refl
-sized_bytes (g ∷ gs) a = let r = sized_bytes gs a.1 in omega (arith, a.0, length-append g (bytes gs))
+sized_bytes gs a = bytes_length (λ g e. e) gs a
 
 -- nothing can be collected: no whole packet, and no fault
 pub none_next : (h : Heard) → is_some (next h) ≡ false → (length h.units < 188) × (h.fault ≡ None)
@@ -103,7 +102,7 @@ module _ (M : Model) (m : Rule M) where
       record {
         are_whole = All-push Sized gs (take 188 us) t.are_whole (length-take-le 188 us l);
         gave =
-            ap (λ (w : List ℕ). w ++ drop 188 us) (bytes_push gs (take 188 us))
+            ap (λ (w : List ℕ). w ++ drop 188 us) (sym (flat_map_more (λ (x : List ℕ). x) [] gs (take 188 us)))
             ∙ append_assoc (bytes gs) (take 188 us) (drop 188 us)
             ∙ ap (λ (w : List ℕ). bytes gs ++ w) (take-append-drop 188 us)
             ∙ t.gave;

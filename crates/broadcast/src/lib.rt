@@ -48,7 +48,7 @@ pub fn fit<P: Stage>(pile: &P, codes: &Codes) -> Result<Settings, Refusal>
     ensures settings { IfOk result (λ s. settings_read codes.now ≡ Ok s) }
     ensures some { IfOk result (λ s. 1 ≤ super_frame_packets s) }
 {
-    let settings = Settings::read(codes)?;
+    let settings = Settings::try_from(codes)?;
     let room = 188 * u64::from(settings.packets());
     if pile.taken() != 256 || room <= u64::from(pile.hold(0)) {
         return Err(Refusal::PileUnfit);
