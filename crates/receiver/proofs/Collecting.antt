@@ -36,12 +36,6 @@ ok_false (Ok true) e = let z : ◌≡◌ {A = ℕ} 0 1 = cc in absurd (omega ari
 ok_false (Ok false) e = refl
 ok_false (Err f) e = let z : ◌≡◌ {A = ℕ} 0 1 = cc in absurd (omega arith)
 
--- it is started
-pub set_to : (o : Option Settings) (b : Bool) → option_is_some o ≡ not b → b ≡ false → (s : Settings) × (o ≡ Some s)
-set_to None true e f = let z : ◌≡◌ {A = ℕ} 0 1 = cc in absurd (omega arith)
-set_to None false e f = let z : ◌≡◌ {A = ℕ} 0 1 = cc in absurd (omega arith)
-set_to (Some s) b e f = (s, refl)
-
 module _ (M : Model) (o : Option Settings) (s : Settings) (is : o ≡ Some s) where
   -- a hear that is refused since something waits
   pub hear_busy : (c : ℕ) (side side' : Receiving) → c < M.given → is_some (next side.waits) ≡ true → side' ≡ side

@@ -74,9 +74,7 @@ impl<P: Stage> Receiver<P> {
         ensures holds { HoldsOver (P.Stage.model self.old.gatherer.pile) }
     {
         holds(&self.gatherer.pile);
-        if self.settings.is_none() {
-            return Err(Refusal::NotStarted);
-        }
+        self.settings.ok_or(Refusal::NotStarted)?;
         // Mostly nothing waits, and to offer is then to have looked.
         if self.gatherer.offer(cell) {
             return Ok(());
@@ -99,9 +97,7 @@ impl<P: Stage> Receiver<P> {
         ensures holds { HoldsOver (P.Stage.model self.old.gatherer.pile) }
     {
         holds(&self.gatherer.pile);
-        if self.settings.is_none() {
-            return Err(Missed::Refused(Refusal::NotStarted));
-        }
+        self.settings.ok_or(Refusal::NotStarted)?;
         if buffer.len() != 188 {
             return Err(Missed::Refused(Refusal::PacketLength));
         }
