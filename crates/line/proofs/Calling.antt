@@ -1,6 +1,6 @@
 -- The calls of a line where nothing refuses them, from what their checks have found.
 use Rattle.std.proofs.Common.{◌≡◌, ℕ, ◌+◌, ◌%◌, Bool, true, false, not, eqb, List, [], length, get_or, Some, None, Ok, Err, Option, Result, sym, refl, ap, ◌∙◌, ap₂, arith}
-use Rattle.std.proofs.lemmas.Bool.{eq-eqb}
+use Rattle.std.proofs.lemmas.Bool.{eq-eqb, ne_eqb}
 use Rattle.refusal.specs.declared.Refusal.{Refusal}
 use Rattle.refusal.specs.declared.Refusal.TheVariants.{Closed}
 use Rattle.refusal.specs.Numbers.{number_of}
@@ -11,7 +11,7 @@ use Rattle.settings.specs.SuperFrame.{super_frame_packets}
 use Rattle.stage.specs.Model.{Model, Sending, fed, some, new_sending}
 use Rattle.stage.specs.Rule.{Sends}
 use Rattle.stage.proofs.Feeding.{fed-fed}
-use Rattle.broadcast.specs.Calls.{done, check, bytes, closing_packets, unfit, unfit_for, unfit_pile}
+use Rattle.broadcast.specs.Calls.{refused, done, check, bytes, closing_packets, unfit, unfit_for, unfit_pile}
 use Rattle.broadcast.specs.Steps.{Outcome, unless}
 use Rattle.broadcast.specs.Line as calls
 use Rattle.broadcast.specs.LineSteps as steps
@@ -50,6 +50,15 @@ idle_seen true side = refl
 idle_seen false side = refl
 
 module _ (M : Model) where
+  -- a packet with another first byte
+  pub packet_refused : (xs : List ℕ) → length xs ≡ 188 → (get_or xs 0 0 ≡ 0x47 → ⊥) → (q : Phase) (f : Frame) (side : Sending) → admitted q Packet ≡ Ok f
+      → outcome (refused 32) xs (seen q side) ≡ steps.step M (seen q side) (calls.packet xs)
+  packet_refused xs l n Idle f side a = impossible a
+  packet_refused xs l n (Open g) f side a =
+      sym (ap (λ v. unless v (seen (Open g) side) xs (outcome done xs (steps.opened g.settings ((g.begun + 1) % super_frame_packets g.settings) (fed side xs))))
+      (ap₂ (λ b s. check (not b) 15 (check (not s) 32 (check (some side.waits) 31 None))) (eq-eqb (length xs) 188 l) (ne_eqb (get_or xs 0 0) 0x47 n)))
+  packet_refused xs l n (Closing g) f side a = impossible a
+
   -- a packet
   module _ (xs : List ℕ) (whole : length xs ≡ 188) (sync : get_or xs 0 0 ≡ 0x47) where
     open_packet : (f f' : Frame) (side side' : Sending) → side.waits ≡ [] → f'.settings ≡ f.settings

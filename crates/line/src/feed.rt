@@ -36,7 +36,8 @@ impl<P: Stage> Feed<P> {
         self.pending = Pending::none();
     }
 
-    // Fills a buffer with waiting cells, as many as wait and fit. Bytes are handed on until a cell finds no room.
+    // Fills a buffer with waiting cells, as many as wait and fit. Bytes are handed on until a cell finds no room. The count is the answer, and says
+    // where the next pass begins.
     pub(crate) fn fill(&mut self, buffer: &mut [u8]) -> usize
         requires { (P.Stage.model self.old.pile).taken ≡ 256 }
         ensures fixed { P.Stage.model self.new.pile ≡ P.Stage.model self.old.pile }

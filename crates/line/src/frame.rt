@@ -7,6 +7,7 @@ use settings::Settings;
 #[derive(Clone, Copy)]
 pub struct Frame {
     pub settings: Settings,
+    // Worked out once, and not for each packet.
     pub packets: u32,
     // A count of all packets would overflow one day.
     pub begun: u32,

@@ -113,19 +113,16 @@ impl<P: Stage> Line<P> {
     {
         holds(&self.feed.pile);
         let frame = self.admit(Call::Packet)?;
-        let [sync, rest @ ..] = packet else {
+        let Some(bytes) = packet.as_array::<188>() else {
             return Err(Refusal::PacketLength);
         };
-        if rest.len() != 187 {
-            return Err(Refusal::PacketLength);
-        }
-        if *sync != 0x47 {
+        if bytes[0] != 0x47 {
             return Err(Refusal::FirstByte);
         }
         if self.feed.pump() {
             return Err(Refusal::CellsWait);
         }
-        self.feed.pending.set_packet(packet);
+        self.feed.pending.set_packet(*bytes);
         self.phase = Phase::Open(frame.counted());
         Ok(())
     }

@@ -11,6 +11,7 @@ pub enum Missed {
     Failed(Fault),
 }
 
+// A derived From would state no contract, and the proofs of each `?` need one.
 impl From<Refusal> for Missed {
     ghost from_gives = { λ e r. r ≡ Refused e };
 
