@@ -22,30 +22,13 @@ pub enum Call {
     Packets(u32),
 }
 
-fn done(answer: Result<(), Refusal>) -> (u8, usize) {
-    match answer {
-        Ok(()) => (0, 0),
-        Err(refusal) => (refusal.number(), 0),
-    }
-}
+// The count of what was written where the call counts, else 0.
+pub type Answer = Result<usize, Refusal>;
 
-// The number of a refusal, or 0 and the count.
-fn told(answer: Result<usize, Refusal>) -> (u8, usize) {
-    match answer {
-        Ok(count) => (0, count),
-        Err(refusal) => (refusal.number(), 0),
-    }
-}
-
-fn cells<P: Stage>(
-    rt: &impl Abort,
-    line: &mut Line<P>,
-    buffer: &mut [u8],
-    room: usize,
-) -> (u8, usize) {
+fn cells<P: Stage>(rt: &impl Abort, line: &mut Line<P>, buffer: &mut [u8], room: usize) -> Answer {
     let room = room.min(buffer.len());
-    let answer = told(line.cells(&mut buffer[..room]));
-    check_rest(rt, buffer, answer.1);
+    let answer = line.cells(&mut buffer[..room]);
+    check_rest(rt, buffer, answer.unwrap_or(0));
     answer
 }
 
@@ -55,43 +38,43 @@ fn tps<P: Stage>(
     frame: u8,
     buffer: &mut [u8],
     room: usize,
-) -> (u8, usize) {
+) -> Result<(), Refusal> {
     let room = room.min(buffer.len());
-    let answer = done(line.tps(frame, &mut buffer[..room]));
-    check_rest(rt, buffer, if answer.0 == 0 { 67 } else { 0 });
+    let answer = line.tps(frame, &mut buffer[..room]);
+    check_rest(rt, buffer, if answer.is_ok() { 67 } else { 0 });
     answer
 }
 
 // A packet of the bytes at the front.
-fn offer<P: Stage>(line: &mut Line<P>, bytes: &[u8], length: usize) -> (u8, usize) {
-    done(line.packet(&bytes[..length.min(bytes.len())]))
+fn offer<P: Stage>(line: &mut Line<P>, bytes: &[u8], length: usize) -> Result<(), Refusal> {
+    line.packet(&bytes[..length.min(bytes.len())])
 }
 
-fn packets<P: Stage>(rt: &impl Abort, line: &mut Line<P>, bytes: &[u8], count: u32) -> (u8, usize) {
+fn packets<P: Stage>(rt: &impl Abort, line: &mut Line<P>, bytes: &[u8], count: u32) {
     for _ in 0..count {
         assert!(rt; line.packet(bytes).is_ok());
-        assert_eq!(rt; cells(rt, line, &mut [UNTOUCHED; 188], 188), (0, 188));
+        assert_eq!(rt; cells(rt, line, &mut [UNTOUCHED; 188], 188), Ok(188));
     }
-    (0, 0)
 }
 
 impl Call {
-    fn make<P: Stage>(self, rt: &impl Abort, line: &mut Line<P>) -> (u8, usize) {
+    fn make<P: Stage>(self, rt: &impl Abort, line: &mut Line<P>) -> Answer {
         match self {
-            Call::Start(numbers) => done(line.start(&codes(numbers))),
-            Call::Packet(length, first) => offer(line, &[first; LONG], length),
-            Call::Cells(room) => cells(rt, line, &mut [UNTOUCHED; ROOM], room),
-            Call::Close => done(line.close()),
-            Call::Tps(frame, room) => tps(rt, line, frame, &mut [UNTOUCHED; ROOM], room),
+            Call::Start(numbers) => line.start(&codes(numbers))?,
+            Call::Packet(length, first) => offer(line, &[first; LONG], length)?,
+            Call::Cells(room) => return cells(rt, line, &mut [UNTOUCHED; ROOM], room),
+            Call::Close => line.close()?,
+            Call::Tps(frame, room) => tps(rt, line, frame, &mut [UNTOUCHED; ROOM], room)?,
             Call::Packets(count) => packets(rt, line, &[0x47; 188], count),
         }
+        Ok(0)
     }
 }
 
-// Makes the calls one after the other on a new line; each has to answer the refusal's number, or 0 and the count.
-pub(crate) fn check_line<P: Stage + Drop>(rt: &impl Abort, pile: P, calls: &[(Call, u8, usize)]) {
+// Makes the calls one after the other on a new line.
+pub(crate) fn check_line<P: Stage + Drop>(rt: &impl Abort, pile: P, calls: &[(Call, Answer)]) {
     let mut line = Line::new(pile);
-    for (call, number, count) in calls {
-        assert_eq!(rt; call.make(rt, &mut line), (*number, *count));
+    for (call, answer) in calls {
+        assert_eq!(rt; call.make(rt, &mut line), *answer);
     }
 }

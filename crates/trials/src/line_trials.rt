@@ -1,63 +1,65 @@
 // What a line answers: docs/rules/line-and-receiver.md.
-use super::line_calls::{Call, check_line};
-use super::packets::{UNTOUCHED, check_front, check_rest, codes, packet};
+use super::line_calls::{Answer, Call, check_line};
+use super::packets::{KNOWN, UNTOUCHED, check_rest, codes, packet};
 use dispersal::EnergyDispersal;
 use inner_interleaver::bit_interleaver::BitInterleaver;
 use line::Line;
 use outer::Serializer;
 use pile::Pile;
+use refusal::Refusal::{
+    BufferShort, CellsWait, Closed, FirstByte, FrameOrParity, NotStarted, PacketLength,
+    PartSuperFrame, PileUnfit, Started, UnknownConstellation, UnknownGuard, UnknownMode,
+    UnknownRate,
+};
 use settings::Constellation;
 use stage::Stage;
 use std::process::Abort;
 
-// 2K, QPSK, 1/2 and 1/32: a super-frame is 252 packets.
-const KNOWN: [u8; 4] = [0, 0, 0, 0];
-
 // A byte is a cell here.
-const ANSWERS: [(Call, u8, usize); 43] = [
-    (Call::Packet(188, 0x47), 30, 0),
-    (Call::Cells(1), 30, 0),
-    (Call::Close, 30, 0),
-    (Call::Tps(1, 67), 30, 0),
-    (Call::Start([2, 3, 5, 4]), 11, 0),
-    (Call::Start([1, 3, 5, 4]), 12, 0),
-    (Call::Start([1, 2, 5, 4]), 13, 0),
-    (Call::Start([1, 2, 4, 4]), 14, 0),
-    (Call::Packet(188, 0x47), 30, 0),
-    (Call::Start(KNOWN), 0, 0),
-    (Call::Start(KNOWN), 35, 0),
-    (Call::Start([2, 3, 5, 4]), 35, 0),
-    (Call::Tps(0, 67), 17, 0),
-    (Call::Tps(5, 66), 17, 0),
-    (Call::Tps(4, 66), 16, 0),
-    (Call::Tps(4, 67), 0, 0),
-    (Call::Packet(187, 0x47), 15, 0),
-    (Call::Packet(189, 0x48), 15, 0),
-    (Call::Packet(188, 0x48), 32, 0),
-    (Call::Cells(1), 0, 0),
-    (Call::Packet(188, 0x47), 0, 0),
-    (Call::Packet(187, 0x47), 15, 0),
-    (Call::Packet(188, 0x48), 32, 0),
-    (Call::Packet(188, 0x47), 31, 0),
-    (Call::Close, 33, 0),
-    (Call::Cells(0), 0, 0),
-    (Call::Cells(1), 0, 1),
-    (Call::Cells(100), 0, 100),
-    (Call::Packet(188, 0x47), 31, 0),
-    (Call::Cells(200), 0, 87),
-    (Call::Cells(200), 0, 0),
-    (Call::Packets(250), 0, 0),
-    (Call::Close, 33, 0),
-    (Call::Packet(188, 0x47), 0, 0),
-    (Call::Close, 31, 0),
-    (Call::Cells(188), 0, 188),
-    (Call::Close, 0, 0),
-    (Call::Packet(187, 0x47), 34, 0),
-    (Call::Close, 34, 0),
-    (Call::Start(KNOWN), 35, 0),
-    (Call::Tps(1, 68), 0, 0),
-    (Call::Cells(2000), 0, 2000),
-    (Call::Cells(1), 0, 1),
+const ANSWERS: [(Call, Answer); 43] = [
+    (Call::Packet(188, 0x47), Err(NotStarted)),
+    (Call::Cells(1), Err(NotStarted)),
+    (Call::Close, Err(NotStarted)),
+    (Call::Tps(1, 67), Err(NotStarted)),
+    (Call::Start([2, 3, 5, 4]), Err(UnknownMode)),
+    (Call::Start([1, 3, 5, 4]), Err(UnknownConstellation)),
+    (Call::Start([1, 2, 5, 4]), Err(UnknownRate)),
+    (Call::Start([1, 2, 4, 4]), Err(UnknownGuard)),
+    (Call::Packet(188, 0x47), Err(NotStarted)),
+    (Call::Start(KNOWN), Ok(0)),
+    (Call::Start(KNOWN), Err(Started)),
+    (Call::Start([2, 3, 5, 4]), Err(Started)),
+    (Call::Tps(0, 67), Err(FrameOrParity)),
+    (Call::Tps(5, 66), Err(FrameOrParity)),
+    (Call::Tps(4, 66), Err(BufferShort)),
+    (Call::Tps(4, 67), Ok(0)),
+    (Call::Packet(187, 0x47), Err(PacketLength)),
+    (Call::Packet(189, 0x48), Err(PacketLength)),
+    (Call::Packet(188, 0x48), Err(FirstByte)),
+    (Call::Cells(1), Ok(0)),
+    (Call::Packet(188, 0x47), Ok(0)),
+    (Call::Packet(187, 0x47), Err(PacketLength)),
+    (Call::Packet(188, 0x48), Err(FirstByte)),
+    (Call::Packet(188, 0x47), Err(CellsWait)),
+    (Call::Close, Err(PartSuperFrame)),
+    (Call::Cells(0), Ok(0)),
+    (Call::Cells(1), Ok(1)),
+    (Call::Cells(100), Ok(100)),
+    (Call::Packet(188, 0x47), Err(CellsWait)),
+    (Call::Cells(200), Ok(87)),
+    (Call::Cells(200), Ok(0)),
+    (Call::Packets(250), Ok(0)),
+    (Call::Close, Err(PartSuperFrame)),
+    (Call::Packet(188, 0x47), Ok(0)),
+    (Call::Close, Err(CellsWait)),
+    (Call::Cells(188), Ok(188)),
+    (Call::Close, Ok(0)),
+    (Call::Packet(187, 0x47), Err(Closed)),
+    (Call::Close, Err(Closed)),
+    (Call::Start(KNOWN), Err(Started)),
+    (Call::Tps(1, 68), Ok(0)),
+    (Call::Cells(2000), Ok(2000)),
+    (Call::Cells(1), Ok(1)),
 ];
 
 #[test]
@@ -70,10 +72,10 @@ fn calls(rt: HostRuntime) {
 }
 
 // No packet is a multiple of a super-frame too.
-const EMPTY: [(Call, u8, usize); 3] = [
-    (Call::Start(KNOWN), 0, 0),
-    (Call::Close, 0, 0),
-    (Call::Close, 34, 0),
+const EMPTY: [(Call, Answer); 3] = [
+    (Call::Start(KNOWN), Ok(0)),
+    (Call::Close, Ok(0)),
+    (Call::Close, Err(Closed)),
 ];
 
 #[test]
@@ -82,11 +84,11 @@ fn close_of_nothing(rt: HostRuntime) {
 }
 
 // One pile takes bits. In the other a byte doesn't fit the lower stage, so it takes nothing.
-const UNFIT: [(Call, u8, usize); 4] = [
-    (Call::Start([0, 0, 0, 4]), 14, 0),
-    (Call::Start(KNOWN), 36, 0),
-    (Call::Start(KNOWN), 36, 0),
-    (Call::Packet(188, 0x47), 30, 0),
+const UNFIT: [(Call, Answer); 4] = [
+    (Call::Start([0, 0, 0, 4]), Err(UnknownGuard)),
+    (Call::Start(KNOWN), Err(PileUnfit)),
+    (Call::Start(KNOWN), Err(PileUnfit)),
+    (Call::Packet(188, 0x47), Err(NotStarted)),
 ];
 
 #[test]
@@ -95,7 +97,7 @@ fn pile_that_takes_no_bytes(rt: HostRuntime) {
     check_line(
         &rt,
         Pile::new(EnergyDispersal::new(), Serializer::new()),
-        &[(Call::Start(KNOWN), 0, 0)],
+        &[(Call::Start(KNOWN), Ok(0))],
     );
     check_line(
         &rt,
@@ -108,14 +110,14 @@ fn pile_that_takes_no_bytes(rt: HostRuntime) {
 }
 
 // A packet is 1504 bits, a block 252 bits and 126 words: five blocks and 244 bits, and with the next packet's six.
-const WORDS: [(Call, u8, usize); 7] = [
-    (Call::Start(KNOWN), 0, 0),
-    (Call::Packet(188, 0x47), 0, 0),
-    (Call::Cells(2000), 0, 630),
-    (Call::Packet(188, 0x47), 0, 0),
-    (Call::Cells(700), 0, 700),
-    (Call::Packet(188, 0x47), 31, 0),
-    (Call::Cells(700), 0, 56),
+const WORDS: [(Call, Answer); 7] = [
+    (Call::Start(KNOWN), Ok(0)),
+    (Call::Packet(188, 0x47), Ok(0)),
+    (Call::Cells(2000), Ok(630)),
+    (Call::Packet(188, 0x47), Ok(0)),
+    (Call::Cells(700), Ok(700)),
+    (Call::Packet(188, 0x47), Err(CellsWait)),
+    (Call::Cells(700), Ok(56)),
 ];
 
 #[test]
@@ -134,7 +136,7 @@ fn check_cells<P: Stage + Drop>(rt: &impl Abort, pile: P, bytes: &[u8], cells: &
     assert!(rt; line.start(&codes(KNOWN)).is_ok());
     assert!(rt; line.packet(bytes).is_ok());
     assert!(rt; line.cells(&mut buffer).is_ok());
-    check_front(rt, &buffer, cells);
+    assert!(rt; buffer.starts_with(cells));
     check_rest(rt, &buffer, 188);
 }
 

@@ -8,11 +8,14 @@ pub const LONG: usize = 189;
 // What a buffer holds before a call.
 pub const UNTOUCHED: u8 = 0xEE;
 
+// The codes of mode, constellation, rate and guard for 2K, QPSK, 1/2 and 1/32: a super-frame is 252 packets.
+pub const KNOWN: [u8; 4] = [0, 0, 0, 0];
+
 // A packet in which each byte but the first is the number of its place.
 pub(crate) fn packet() -> [u8; 188] {
     let mut bytes = [0x47; 188];
-    for i in 1..188u8 {
-        bytes[i as usize] = i;
+    for (byte, place) in bytes.iter_mut().zip(0u8..).skip(1) {
+        *byte = place;
     }
     bytes
 }
@@ -31,14 +34,5 @@ pub(crate) fn codes(numbers: [u8; 4]) -> Codes {
 
 // From a place on, the buffer is as it was.
 pub(crate) fn check_rest(rt: &impl Abort, buffer: &[u8], from: usize) {
-    for (i, byte) in buffer.iter().enumerate() {
-        assert!(rt; i < from || *byte == UNTOUCHED);
-    }
-}
-
-// At its front, the buffer has the bytes.
-pub(crate) fn check_front(rt: &impl Abort, buffer: &[u8], bytes: &[u8]) {
-    for (i, byte) in bytes.iter().enumerate() {
-        assert!(rt; i < buffer.len() && buffer[i] == *byte);
-    }
+    assert!(rt; buffer.iter().skip(from).all(|byte| *byte == UNTOUCHED));
 }

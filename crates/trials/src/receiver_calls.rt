@@ -1,7 +1,6 @@
 // The calls of a receiver, over any pile.
-use super::packets::{LONG, UNTOUCHED, check_front, check_rest, codes, packet};
+use super::packets::{LONG, UNTOUCHED, check_rest, codes, packet};
 use receiver::{Missed, Receiver};
-use refusal::Refusal;
 use stage::Stage;
 use std::process::Abort;
 
@@ -13,31 +12,13 @@ pub enum Call {
     // Into so many bytes.
     Collect(usize),
     // So many bytes from a place of a packet, which are cells.
-    HearFrom(u8, u8),
+    HearFrom(usize, usize),
 }
 
-// Done, so many bytes collected, refused with a number, or failed at a stage with a cause.
-pub type Answer = (u8, usize, u32, u8);
+// The count of what was collected where the call collects, else 0.
+pub type Answer = Result<usize, Missed>;
 
-pub const DONE: Answer = (0, 0, 0, 0);
-
-pub const PACKET: Answer = (0, 188, 0, 0);
-
-fn told(answer: Result<usize, Missed>) -> Answer {
-    match answer {
-        Ok(count) => (0, count, 0, 0),
-        Err(Missed::Refused(refusal)) => (refusal.number(), 0, 0, 0),
-        Err(Missed::Failed(fault)) => (0, 0, fault.stage, fault.cause),
-    }
-}
-
-fn done(answer: Result<(), Refusal>) -> Answer {
-    match answer {
-        Ok(()) => DONE,
-        Err(refusal) => (refusal.number(), 0, 0, 0),
-    }
-}
-
+// A packet that is collected has to be the one heard.
 fn collect<P: Stage>(
     rt: &impl Abort,
     receiver: &mut Receiver<P>,
@@ -45,34 +26,31 @@ fn collect<P: Stage>(
     room: usize,
 ) -> Answer {
     let room = room.min(buffer.len());
-    let answer = told(receiver.collect(&mut buffer[..room]));
-    check_rest(rt, buffer, answer.1);
-    if answer.1 == 188 {
-        check_front(rt, buffer, &packet());
-    }
+    let answer = receiver.collect(&mut buffer[..room]);
+    check_rest(rt, buffer, answer.unwrap_or(0));
+    assert!(rt; answer != Ok(188) || buffer.starts_with(&packet()));
     answer
 }
 
-fn hear_from<P: Stage>(rt: &impl Abort, receiver: &mut Receiver<P>, from: u8, to: u8) -> Answer {
-    let bytes = packet();
-    for i in from..to.min(188) {
-        assert!(rt; receiver.hear(bytes[i as usize]).is_ok());
+fn hear_from<P: Stage>(rt: &impl Abort, receiver: &mut Receiver<P>, from: usize, to: usize) {
+    for cell in packet().iter().take(to).skip(from) {
+        assert!(rt; receiver.hear(*cell).is_ok());
     }
-    DONE
 }
 
 impl Call {
     fn make<P: Stage>(self, rt: &impl Abort, receiver: &mut Receiver<P>) -> Answer {
         match self {
-            Call::Start(numbers) => done(receiver.start(&codes(numbers))),
-            Call::Hear(cell) => done(receiver.hear(cell)),
-            Call::Collect(room) => collect(rt, receiver, &mut [UNTOUCHED; LONG], room),
+            Call::Start(numbers) => receiver.start(&codes(numbers))?,
+            Call::Hear(cell) => receiver.hear(cell)?,
+            Call::Collect(room) => return collect(rt, receiver, &mut [UNTOUCHED; LONG], room),
             Call::HearFrom(from, to) => hear_from(rt, receiver, from, to),
         }
+        Ok(0)
     }
 }
 
-// Makes the calls one after the other on a new receiver. A packet that is collected has to be the one heard.
+// Makes the calls one after the other on a new receiver.
 pub(crate) fn check_receiver<P: Stage + Drop>(rt: &impl Abort, pile: P, calls: &[(Call, Answer)]) {
     let mut receiver = Receiver::new(pile);
     for (call, answer) in calls {

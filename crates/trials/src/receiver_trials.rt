@@ -1,35 +1,47 @@
 // What a receiver answers: docs/rules/line-and-receiver.md.
-use super::receiver_calls::{Answer, Call, DONE, PACKET, check_receiver};
+use super::packets::KNOWN;
+use super::receiver_calls::{Answer, Call, check_receiver};
 use dispersal::EnergyDispersal;
 use inner_interleaver::bit_interleaver::BitInterleaver;
 use outer::Serializer;
 use pile::Pile;
+use receiver::Missed::{Failed, Refused};
+use refusal::Refusal::{
+    NotStarted, PacketLength, PileUnfit, SomethingWaits, Started, UnitTooLarge,
+    UnknownConstellation, UnknownGuard, UnknownMode, UnknownRate,
+};
 use settings::Constellation;
+use stage::Fault;
 
-const KNOWN: [u8; 4] = [0, 0, 0, 0];
+const DONE: Answer = Ok(0);
+
+const PACKET: Answer = Ok(188);
 
 // A packet that doesn't begin with 47 hex.
-const FAULT: Answer = (0, 0, 0, 5);
+const FAULT: Answer = Err(Failed(Fault { stage: 0, cause: 5 }));
 
 // A cell is a byte here.
 const ANSWERS: [(Call, Answer); 32] = [
-    (Call::Hear(0x47), (30, 0, 0, 0)),
-    (Call::Collect(187), (30, 0, 0, 0)),
-    (Call::Start([2, 3, 5, 4]), (11, 0, 0, 0)),
-    (Call::Start([1, 3, 5, 4]), (12, 0, 0, 0)),
-    (Call::Start([1, 2, 5, 4]), (13, 0, 0, 0)),
-    (Call::Start([1, 2, 4, 4]), (14, 0, 0, 0)),
-    (Call::Hear(0x47), (30, 0, 0, 0)),
+    (Call::Hear(0x47), Err(Refused(NotStarted))),
+    (Call::Collect(187), Err(Refused(NotStarted))),
+    (Call::Start([2, 3, 5, 4]), Err(Refused(UnknownMode))),
+    (
+        Call::Start([1, 3, 5, 4]),
+        Err(Refused(UnknownConstellation)),
+    ),
+    (Call::Start([1, 2, 5, 4]), Err(Refused(UnknownRate))),
+    (Call::Start([1, 2, 4, 4]), Err(Refused(UnknownGuard))),
+    (Call::Hear(0x47), Err(Refused(NotStarted))),
     (Call::Start(KNOWN), DONE),
-    (Call::Start([2, 3, 5, 4]), (35, 0, 0, 0)),
+    (Call::Start([2, 3, 5, 4]), Err(Refused(Started))),
     (Call::Collect(188), DONE),
-    (Call::Collect(187), (15, 0, 0, 0)),
+    (Call::Collect(187), Err(Refused(PacketLength))),
     (Call::HearFrom(0, 187), DONE),
     (Call::Collect(188), DONE),
     (Call::HearFrom(187, 188), DONE),
-    (Call::Hear(0x47), (22, 0, 0, 0)),
-    (Call::Collect(187), (15, 0, 0, 0)),
-    (Call::Collect(189), (15, 0, 0, 0)),
+    (Call::Hear(0x47), Err(Refused(SomethingWaits))),
+    (Call::Collect(187), Err(Refused(PacketLength))),
+    (Call::Collect(189), Err(Refused(PacketLength))),
     (Call::Collect(188), PACKET),
     (Call::Collect(188), DONE),
     (Call::Hear(0x47), DONE),
@@ -39,12 +51,12 @@ const ANSWERS: [(Call, Answer); 32] = [
     (Call::HearFrom(1, 187), DONE),
     (Call::Collect(188), DONE),
     (Call::HearFrom(187, 188), DONE),
-    (Call::Hear(0x47), (22, 0, 0, 0)),
+    (Call::Hear(0x47), Err(Refused(SomethingWaits))),
     (Call::Collect(188), FAULT),
-    (Call::Collect(187), (15, 0, 0, 0)),
+    (Call::Collect(187), Err(Refused(PacketLength))),
     (Call::Collect(188), FAULT),
-    (Call::Hear(0x47), (22, 0, 0, 0)),
-    (Call::Start(KNOWN), (35, 0, 0, 0)),
+    (Call::Hear(0x47), Err(Refused(SomethingWaits))),
+    (Call::Start(KNOWN), Err(Refused(Started))),
 ];
 
 #[test]
@@ -58,11 +70,11 @@ fn calls(rt: HostRuntime) {
 
 // Words of two bits.
 const CELLS: [(Call, Answer); 6] = [
-    (Call::Hear(4), (30, 0, 0, 0)),
+    (Call::Hear(4), Err(Refused(NotStarted))),
     (Call::Start(KNOWN), DONE),
     (Call::Hear(3), DONE),
-    (Call::Hear(4), (21, 0, 0, 0)),
-    (Call::Hear(255), (21, 0, 0, 0)),
+    (Call::Hear(4), Err(Refused(UnitTooLarge))),
+    (Call::Hear(255), Err(Refused(UnitTooLarge))),
     (Call::Hear(0), DONE),
 ];
 
@@ -76,9 +88,12 @@ fn cells_of_two_bits(rt: HostRuntime) {
 }
 
 const UNFIT: [(Call, Answer); 3] = [
-    (Call::Start([0, 3, 0, 0]), (12, 0, 0, 0)),
-    (Call::Start(KNOWN), (36, 0, 0, 0)),
-    (Call::Hear(0), (30, 0, 0, 0)),
+    (
+        Call::Start([0, 3, 0, 0]),
+        Err(Refused(UnknownConstellation)),
+    ),
+    (Call::Start(KNOWN), Err(Refused(PileUnfit))),
+    (Call::Hear(0), Err(Refused(NotStarted))),
 ];
 
 #[test]
