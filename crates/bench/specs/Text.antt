@@ -26,6 +26,6 @@ abbrev pub fault : Fault → List ℕ
 fault f = codes "fault" ++ (codes " " ++ (decimal f.stage ++ line [] f.cause []))
 
 abbrev pub verdict : Verdict → List ℕ
-verdict Equal = codes "every packet came back\n"
-verdict (Changed k) = codes "packet " ++ (decimal k ++ codes " came back changed\n")
-verdict (Lost k) = codes "packet " ++ (decimal k ++ codes " didn't come back\n")
+verdict Equal = codes "every packet came back"
+verdict (Changed k) = codes "packet " ++ (decimal k ++ codes " came back changed")
+verdict (Lost k) = codes "packet " ++ (decimal k ++ codes " didn't come back")

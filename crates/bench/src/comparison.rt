@@ -2,7 +2,7 @@
 ghost use Rattle.std.specs.Prelude.{◌≡◌};
 ghost use Rattle.bench.specs.Verdict.{verdict_of};
 
-use super::sink::Sink;
+use relay::Sink;
 use std::io;
 use std::io::Read;
 

@@ -2,15 +2,15 @@
 ghost use Rattle.std.specs.Prelude.{◌≡◌};
 ghost use Rattle.bench.specs.Files.{whole_packets};
 
-use super::stop::Stop;
+use relay::Stop;
 use settings::Settings;
-use std::fs;
 use std::fs::File;
 use std::io::{BufReader, BufWriter, Read};
+use std::{fs, io};
 
-pub(crate) fn open(rt: &HostRuntime, path: &str, what: &str) -> Result<BufReader<File>, Stop> {
-    match File::open(rt, path) {
-        Ok(file) => Ok(BufReader::new(rt.alloc(), file)?),
+fn given(rt: &HostRuntime, path: &str, found: io::Result<File>, what: &str) -> Result<File, Stop> {
+    match found {
+        Ok(file) => Ok(file),
         Err(error) => {
             let text = format!(in rt.alloc(); "{path}: {error}; give {what}")?;
             Err(Stop::Wrong(text))
@@ -18,14 +18,19 @@ pub(crate) fn open(rt: &HostRuntime, path: &str, what: &str) -> Result<BufReader
     }
 }
 
+pub(crate) fn open(rt: &HostRuntime, path: &str, what: &str) -> Result<BufReader<File>, Stop> {
+    let file = given(rt, path, File::open(rt, path), what)?;
+    Ok(BufReader::new(rt.alloc(), file)?)
+}
+
 pub(crate) fn create(rt: &HostRuntime, path: &str) -> Result<BufWriter<File>, Stop> {
-    match File::create(rt, path) {
-        Ok(file) => Ok(BufWriter::new(rt.alloc(), file)?),
-        Err(error) => {
-            let text = format!(in rt.alloc(); "{path}: {error}; give a file that can be written")?;
-            Err(Stop::Wrong(text))
-        }
-    }
+    let file = given(
+        rt,
+        path,
+        File::create(rt, path),
+        "a file that can be written",
+    )?;
+    Ok(BufWriter::new(rt.alloc(), file)?)
 }
 
 // One byte more than a record has is read, so that a longer file is seen to be none.

@@ -1,7 +1,7 @@
 // What the tool can be asked for.
-ghost use Rattle.std.specs.Prelude.{◌≡◌, IfSome, Some};
-ghost use Rattle.bench.specs.Job.{name_of};
-ghost use Rattle.bench.specs.declared.job.Job.{Job};
+ghost use Rattle.bench.specs.Job.{Names};
+
+use std::str::FromStr;
 
 #[derive(Clone, Copy)]
 pub enum Job {
@@ -12,21 +12,28 @@ pub enum Job {
     Chart,
 }
 
-impl Job {
-    pub(crate) fn named(word: &str) -> Option<Job>
-        ensures sound { IfSome result (λ job. word.now ≡ name_of job) }
-        ensures whole { (job : Job) → word.now ≡ name_of job → result ≡ Some job }
-    {
+// A word that asks for no job.
+#[derive(Clone, Copy)]
+pub struct UnknownJob;
+
+impl FromStr for Job {
+    type Err = UnknownJob;
+
+    ghost from_str_gives = { Names };
+
+    fn from_str(word: &str) -> Result<Job, UnknownJob> {
         match word {
-            "send" => Some(Job::Send),
-            "receive" => Some(Job::Receive),
-            "loop" => Some(Job::Loop),
-            "tps" => Some(Job::Tps),
-            "chart" => Some(Job::Chart),
-            _ => None,
+            "send" => Ok(Job::Send),
+            "receive" => Ok(Job::Receive),
+            "loop" => Ok(Job::Loop),
+            "tps" => Ok(Job::Tps),
+            "chart" => Ok(Job::Chart),
+            _ => Err(UnknownJob),
         }
     }
+}
 
+impl Job {
     pub(crate) fn usage(self) -> &'static str {
         match self {
             Job::Send => "send RECORD PACKETS CELLS",

@@ -1,12 +1,12 @@
-// The jobs, over any pile.
+// The jobs.
 use super::comparison::Comparison;
-use super::ears::Ears;
-use super::sink::Sink;
-use super::stop::Stop;
+use super::text::{Received, Returned, Sent};
+use super::work::Work;
 use super::{files, sending, text};
 use chart::{Mark, chart as write_chart};
 use line::Line;
 use receiver::{Missed, Receiver};
+use relay::{Ears, Sink, Stop};
 use settings::{Mode, Settings};
 use stage::Stage;
 use std::io::{BufWriter, Read, Write};
@@ -16,21 +16,50 @@ const PACKETS: &str = "a file of packets, 188 bytes each";
 
 const CELLS: &str = "a file of cells, one byte each";
 
-pub(crate) fn send<P: Stage>(
-    rt: &HostRuntime,
-    settings: &Settings,
-    line: &mut Line<P>,
-    packets: &str,
-    cells: &str,
-) -> Result<(), Stop> {
-    let mut input = files::open(rt, packets, PACKETS)?;
-    let count = files::packets(rt, packets, settings)?;
-    line.start(&settings.codes())?;
-    let mut output = files::create(rt, cells)?;
-    let sent = sending::send(rt, line, count, &mut input, &mut output)?;
-    output.flush()?;
-    rt.print(text::sent(rt.alloc(), count, settings.packets(), sent)?)?;
-    Ok(())
+// The files that a broadcast goes from and to.
+#[derive(Clone, Copy)]
+pub struct Sending<'a> {
+    pub packets: &'a str,
+    pub cells: &'a str,
+}
+
+#[derive(Clone, Copy)]
+pub struct Receiving<'a> {
+    pub cells: &'a str,
+    pub packets: &'a str,
+}
+
+#[derive(Clone, Copy)]
+pub struct ReturnTrip<'a> {
+    pub packets: &'a str,
+}
+
+impl Work for Sending<'_> {
+    fn over<P: Stage + Drop>(
+        &self,
+        rt: &HostRuntime,
+        settings: &Settings,
+        sending: P,
+        _receiving: P,
+    ) -> Result<(), Stop> {
+        let mut input = files::open(rt, self.packets, PACKETS)?;
+        let packets = files::packets(rt, self.packets, settings)?;
+        let mut line = Line::new(sending);
+        line.start(&settings.codes())?;
+        let mut output = files::create(rt, self.cells)?;
+        let cells = sending::send(rt, &mut line, packets, &mut input, &mut output)?;
+        output.flush()?;
+        let closing = settings.packets();
+        print!(rt;
+            "{}",
+            Sent {
+                packets,
+                closing,
+                cells
+            }
+        )?;
+        Ok(())
+    }
 }
 
 // Hears a file of cells, a piece at a time.
@@ -68,50 +97,67 @@ fn tell_missed(rt: &HostRuntime, missed: Option<Missed>) -> Result<(), Stop> {
     Ok(())
 }
 
-pub(crate) fn receive<P: Stage + Drop>(
-    rt: &HostRuntime,
-    settings: &Settings,
-    mut receiver: Receiver<P>,
-    cells: &str,
-    packets: &str,
-) -> Result<(), Stop> {
-    let mut input = files::open(rt, cells, CELLS)?;
-    receiver.start(&settings.codes())?;
-    let output = files::create(rt, packets)?;
-    let mut ears = Ears::new(receiver, output);
-    hear_all(rt, &mut input, &mut ears)?;
-    ears.sink.flush()?;
-    rt.print(text::received(rt.alloc(), ears.cells, ears.packets)?)?;
-    tell_missed(rt, ears.missed)
+impl Work for Receiving<'_> {
+    fn over<P: Stage + Drop>(
+        &self,
+        rt: &HostRuntime,
+        settings: &Settings,
+        _sending: P,
+        receiving: P,
+    ) -> Result<(), Stop> {
+        let mut input = files::open(rt, self.cells, CELLS)?;
+        let mut receiver = Receiver::new(receiving);
+        receiver.start(&settings.codes())?;
+        let output = files::create(rt, self.packets)?;
+        let mut ears = Ears::new(receiver, output);
+        hear_all(rt, &mut input, &mut ears)?;
+        ears.sink.flush()?;
+        let cells = ears.cells;
+        let packets = ears.packets;
+        print!(rt; "{}", Received { cells, packets })?;
+        tell_missed(rt, ears.missed)
+    }
 }
 
-pub(crate) fn return_trip<P: Stage + Drop>(
-    rt: &HostRuntime,
-    settings: &Settings,
-    line: &mut Line<P>,
-    mut receiver: Receiver<P>,
-    packets: &str,
-) -> Result<(), Stop> {
-    let mut input = files::open(rt, packets, PACKETS)?;
-    let count = files::packets(rt, packets, settings)?;
-    let codes = settings.codes();
-    line.start(&codes)?;
-    receiver.start(&codes)?;
-    let original = files::open(rt, packets, PACKETS)?;
-    let mut ears = Ears::new(receiver, Comparison::new(original, count));
-    let cells = sending::send(rt, line, count, &mut input, &mut ears)?;
-    if ears.missed.is_none() {
-        ears.collect()?;
+impl Work for ReturnTrip<'_> {
+    fn over<P: Stage + Drop>(
+        &self,
+        rt: &HostRuntime,
+        settings: &Settings,
+        sending: P,
+        receiving: P,
+    ) -> Result<(), Stop> {
+        let mut input = files::open(rt, self.packets, PACKETS)?;
+        let packets = files::packets(rt, self.packets, settings)?;
+        let codes = settings.codes();
+        let mut line = Line::new(sending);
+        line.start(&codes)?;
+        let mut receiver = Receiver::new(receiving);
+        receiver.start(&codes)?;
+        let original = files::open(rt, self.packets, PACKETS)?;
+        let mut ears = Ears::new(receiver, Comparison::new(original, packets));
+        let cells = sending::send(rt, &mut line, packets, &mut input, &mut ears)?;
+        if ears.missed.is_none() {
+            ears.collect()?;
+        }
+        let returned = ears.packets;
+        print!(rt;
+            "{}",
+            Returned {
+                packets,
+                cells,
+                returned
+            }
+        )?;
+        tell_missed(rt, ears.missed)?;
+        println!(rt; "{}", ears.sink.verdict())?;
+        Ok(())
     }
-    rt.print(text::returned(rt.alloc(), count, cells, ears.packets)?)?;
-    tell_missed(rt, ears.missed)?;
-    rt.print(text::verdict(rt.alloc(), ears.sink.verdict())?)?;
-    Ok(())
 }
 
 pub(crate) fn tps(rt: &HostRuntime, settings: &Settings) -> Result<(), Stop> {
     let mut block = [0; 67];
-    for frame in 1..5u8 {
+    for frame in 1..=4u8 {
         write_block(settings, frame, &mut block)?;
         for bit in &block {
             rt.print(*bit)?;
@@ -122,15 +168,13 @@ pub(crate) fn tps(rt: &HostRuntime, settings: &Settings) -> Result<(), Stop> {
 }
 
 fn number(rt: &HostRuntime, word: &str) -> Result<u8, Stop> {
-    match word.parse::<u8>() {
-        Ok(number) => Ok(number),
-        Err(_) => {
-            let text = format!(in rt.alloc();
-                "{word}: no number from 0 to 255; give mode and parity as 0 or 1"
-            )?;
-            Err(Stop::Wrong(text))
-        }
-    }
+    let Ok(number) = word.parse::<u8>() else {
+        let text = format!(in rt.alloc();
+            "{word}: no number from 0 to 255; give mode and parity as 0 or 1"
+        )?;
+        return Err(Stop::Wrong(text));
+    };
+    Ok(number)
 }
 
 pub(crate) fn chart(rt: &HostRuntime, mode: &str, parity: &str) -> Result<(), Stop> {
@@ -143,9 +187,7 @@ pub(crate) fn chart(rt: &HostRuntime, mode: &str, parity: &str) -> Result<(), St
     write_chart(code, parity, &mut marks)?;
     let words = Mode::read(code)?.symbol_cells() as usize;
     let mut output = BufWriter::new(rt.alloc(), rt.stdout())?;
-    for mark in marks.iter().take(words) {
-        let before = mark.before;
-        let after = mark.after;
+    for Mark { before, after } in marks.iter().take(words) {
         writeln!(output, "{before} {after}")?;
     }
     output.flush()?;

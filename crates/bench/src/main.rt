@@ -5,21 +5,19 @@
 #![tactic(auto)]
 
 mod comparison;
-mod ears;
 mod files;
 mod job;
 mod jobs;
 mod perform;
 mod sending;
-mod sink;
-mod stop;
 mod text;
+mod work;
 
 use job::Job;
 use perform::perform;
+use relay::Stop;
 use std::process::ExitCode;
 use std::{env, io};
-use stop::Stop;
 
 fn run(rt: &HostRuntime) -> Result<(), Stop> {
     let words: Vec<String> = env::args(rt)?.collect(rt.alloc())?;
@@ -27,13 +25,11 @@ fn run(rt: &HostRuntime) -> Result<(), Stop> {
         rt.print(text::HELP)?;
         return Ok(());
     };
-    match Job::named(name.as_str()) {
-        Some(job) => perform(rt, job, operands),
-        None => {
-            let text = format!(in rt.alloc(); "{name}: no such job; bench alone lists the jobs")?;
-            Err(Stop::Wrong(text))
-        }
-    }
+    let Ok(job) = name.parse::<Job>() else {
+        let text = format!(in rt.alloc(); "{name}: no such job; bench alone lists the jobs")?;
+        return Err(Stop::Wrong(text));
+    };
+    perform(rt, job, operands)
 }
 
 fn main(rt: HostRuntime) -> io::Result<ExitCode> {
@@ -43,12 +39,8 @@ fn main(rt: HostRuntime) -> io::Result<ExitCode> {
             rt.print(text::refused(rt.alloc(), refusal)?)?;
             Ok(ExitCode::SUCCESS)
         }
-        Err(Stop::Wrong(text)) => {
-            eprintln!(rt; "bench: {text}")?;
-            Ok(ExitCode::FAILURE)
-        }
-        Err(Stop::Failed(error)) => {
-            eprintln!(rt; "bench: {error}")?;
+        Err(stop) => {
+            eprintln!(rt; "bench: {stop}")?;
             Ok(ExitCode::FAILURE)
         }
     }

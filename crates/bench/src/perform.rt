@@ -1,52 +1,13 @@
-// Each job with its operands. The standard pile is named in one function, `broadcast`: what is done over it is written for any pile.
+// Each job with its operands.
 use super::job::Job;
-use super::stop::Stop;
+use super::jobs::{Receiving, ReturnTrip, Sending};
+use super::work::{Work, over_standard};
 use super::{files, jobs};
-use line::Line;
-use receiver::Receiver;
-use settings::Settings;
-use stage::Stage;
-use standard::standard;
+use relay::Stop;
 
-// The files that a broadcast goes from and to.
-#[derive(Drop)]
-enum Route<'a> {
-    Send { packets: &'a str, cells: &'a str },
-    Receive { cells: &'a str, packets: &'a str },
-    Loop { packets: &'a str },
-}
-
-fn over<P: Stage + Drop>(
-    rt: &HostRuntime,
-    settings: &Settings,
-    route: Route,
-    sending: P,
-    receiving: P,
-) -> Result<(), Stop> {
-    match route {
-        Route::Send { packets, cells } => {
-            let mut line = Line::new(sending);
-            jobs::send(rt, settings, &mut line, packets, cells)
-        }
-        Route::Receive { cells, packets } => {
-            jobs::receive(rt, settings, Receiver::new(receiving), cells, packets)
-        }
-        Route::Loop { packets } => {
-            let mut line = Line::new(sending);
-            jobs::return_trip(rt, settings, &mut line, Receiver::new(receiving), packets)
-        }
-    }
-}
-
-fn broadcast(rt: &HostRuntime, record: &str, route: Route) -> Result<(), Stop> {
+fn broadcast<W: Work>(rt: &HostRuntime, record: &str, work: &W) -> Result<(), Stop> {
     let settings = files::settings(rt, record)?;
-    over(
-        rt,
-        &settings,
-        route,
-        standard(&settings),
-        standard(&settings),
-    )
+    over_standard(rt, &settings, work)
 }
 
 pub(crate) fn perform(rt: &HostRuntime, job: Job, operands: &[String]) -> Result<(), Stop> {
@@ -54,16 +15,16 @@ pub(crate) fn perform(rt: &HostRuntime, job: Job, operands: &[String]) -> Result
         (Job::Send, [record, packets, cells]) => {
             let packets = packets.as_str();
             let cells = cells.as_str();
-            broadcast(rt, record.as_str(), Route::Send { packets, cells })
+            broadcast(rt, record.as_str(), &Sending { packets, cells })
         }
         (Job::Receive, [record, cells, packets]) => {
             let packets = packets.as_str();
             let cells = cells.as_str();
-            broadcast(rt, record.as_str(), Route::Receive { cells, packets })
+            broadcast(rt, record.as_str(), &Receiving { cells, packets })
         }
         (Job::Loop, [record, packets]) => {
             let packets = packets.as_str();
-            broadcast(rt, record.as_str(), Route::Loop { packets })
+            broadcast(rt, record.as_str(), &ReturnTrip { packets })
         }
         (Job::Tps, [record]) => {
             let settings = files::settings(rt, record.as_str())?;

@@ -2,9 +2,9 @@
 //
 // An input bit is told by the digits of its number. Each digit takes a symbol of its own, from interleavers that are new, the highest digit first.
 use super::report::Report;
-use super::stop::Stop;
 use inner_interleaver::bit_interleaver::BitInterleaver;
 use inner_interleaver::symbol_interleaver::SymbolInterleaver;
+use relay::Stop;
 use samples::annex_c;
 use samples::annex_c::Printed;
 use settings::{Constellation, Mode};
@@ -13,10 +13,7 @@ use std::alloc::{AllocError, Global};
 
 // Puts what waits after the units so far.
 fn take_all<S: Stage>(stage: &mut S, units: &mut Vec<u8>) -> Result<(), AllocError> {
-    for _ in 0..u64::MAX {
-        let Some(unit) = stage.send_take() else {
-            break;
-        };
+    while let Some(unit) = stage.send_take() {
         units.push(unit)?;
     }
     Ok(())
@@ -33,10 +30,9 @@ fn send<S: Stage>(stage: &mut S, units: &[u8], sent: &mut Vec<u8>) -> Result<(),
 
 // Puts the cells of a symbol after those so far. Its input bits are a digit of their numbers.
 fn add_symbol(heap: Global, place: u8, cells: &mut Vec<u8>) -> Result<(), AllocError> {
-    let mut bits = Vec::new(heap);
-    for number in 0..9072u16 {
-        bits.push(annex_c::digit(number, place))?;
-    }
+    let bits: Vec<u8> = (0..9072u16)
+        .map(|number| annex_c::digit(number, place))
+        .collect(heap)?;
     let mut words = Vec::new(heap);
     let mut interleaver = BitInterleaver::of(Constellation::Qam64);
     send(&mut interleaver, bits.as_slice(), &mut words)?;

@@ -1,21 +1,20 @@
 // A broadcast of two super-frames of made packets and the closing one, heard back, over any pile.
 use super::listener::Listener;
 use super::report::Report;
-use super::stop::Stop;
+use super::trial::Trial;
 use line::Line;
 use receiver::Receiver;
+use relay::{Sink, Stop};
 use samples::expected::Expected;
 use samples::{Digest, Generator, Returns};
 use settings::Settings;
 use stage::Stage;
 
-// Digests of the cells and of the signalling blocks, packets that were sent, and those of them that came back.
+// A sample by its number, with the digests that it has to have.
 #[derive(Clone, Copy)]
-pub struct Outcome {
-    cells: u64,
-    signalling: u64,
-    sent: u32,
-    back: u32,
+pub struct Broadcast {
+    pub number: u8,
+    pub expected: Expected,
 }
 
 pub(crate) fn started<P: Stage + Drop>(settings: &Settings, sending: P) -> Result<Line<P>, Stop> {
@@ -34,34 +33,17 @@ fn listening<P: Stage + Drop>(
     Ok(Listener::new(receiver, returns))
 }
 
-// Has the cells that wait heard.
-fn drain<P: Stage>(line: &mut Line<P>, listener: &mut Listener<P>) -> Result<(), Stop> {
-    let mut buffer = [0; 4096];
-    for _ in 0..u64::MAX {
-        let count = line.cells(&mut buffer)?.min(buffer.len());
-        if count == 0 {
-            break;
-        }
-        listener.put(&buffer[..count]);
-    }
-    Ok(())
-}
-
-// Over a line that is started.
-fn send<P: Stage>(
+// Made packets, over a line that is started.
+pub(crate) fn send<P: Stage, S: Sink>(
     line: &mut Line<P>,
     seed: u32,
     packets: u32,
-    listener: &mut Listener<P>,
+    sink: &mut S,
 ) -> Result<(), Stop> {
     let mut generator = Generator::new(seed);
     for _ in 0..packets {
-        line.packet(&generator.packet())?;
-        drain(line, listener)?;
+        relay::send(line, &generator.packet(), sink)?;
     }
-    line.close()?;
-    drain(line, listener)?;
-    listener.collect();
     Ok(())
 }
 
@@ -69,7 +51,7 @@ fn send<P: Stage>(
 fn signalling<P: Stage>(line: &Line<P>) -> Result<u64, Stop> {
     let mut digest = Digest::new();
     let mut block = [0; 67];
-    for frame in 1..5u8 {
+    for frame in 1..=4u8 {
         line.tps(frame, &mut block)?;
         digest.add(&block);
     }
@@ -77,33 +59,26 @@ fn signalling<P: Stage>(line: &Line<P>) -> Result<u64, Stop> {
 }
 
 // Each sample has a seed of its own.
-pub(crate) fn carry_out<P: Stage + Drop>(
-    settings: &Settings,
-    number: u8,
-    sending: P,
-    receiving: P,
-) -> Result<Outcome, Stop> {
-    let seed = u32::from(number) + 1;
-    let sent = settings.packets().saturating_mul(2);
-    let mut line = started(settings, sending)?;
-    let mut listener = listening(settings, receiving, Returns::new(seed, sent))?;
-    send(&mut line, seed, sent, &mut listener)?;
-    Ok(Outcome {
-        cells: listener.digest.value,
-        signalling: signalling(&line)?,
-        sent,
-        back: listener.returns.back,
-    })
-}
-
-pub(crate) fn check(
-    report: &mut Report,
-    settings: &Settings,
-    outcome: Outcome,
-    expected: Expected,
-) -> Result<(), Stop> {
-    let back = u64::from(outcome.back);
-    report.number("cells", settings, outcome.cells, expected.cells)?;
-    report.number("packets back", settings, back, u64::from(outcome.sent))?;
-    report.number("signalling", settings, outcome.signalling, expected.tps)
+impl Trial for Broadcast {
+    fn over<P: Stage + Drop>(
+        &self,
+        report: &mut Report,
+        settings: &Settings,
+        sending: P,
+        receiving: P,
+    ) -> Result<(), Stop> {
+        let seed = u32::from(self.number) + 1;
+        let sent = settings.packets().saturating_mul(2);
+        let mut line = started(settings, sending)?;
+        let mut listener = listening(settings, receiving, Returns::new(seed, sent))?;
+        send(&mut line, seed, sent, &mut listener)?;
+        relay::close(&mut line, &mut listener)?;
+        listener.ears.collect()?;
+        let cells = listener.digest.value;
+        let back = u64::from(listener.ears.sink.returns.back);
+        let signalling = signalling(&line)?;
+        report.number("cells", settings, cells, self.expected.cells)?;
+        report.number("packets back", settings, back, u64::from(sent))?;
+        report.number("signalling", settings, signalling, self.expected.tps)
+    }
 }

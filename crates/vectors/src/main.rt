@@ -8,25 +8,23 @@ mod listener;
 mod packets;
 mod refusals;
 mod report;
-mod stop;
 mod trial;
 
+use exchange::Broadcast;
+use relay::Stop;
 use report::Report;
 use samples::expected::EXPECTED;
 use samples::sample;
 use settings::Settings;
 use std::io;
 use std::process::ExitCode;
-use stop::Stop;
-use trial::{Trial, run_trial};
+use trial::run_trial;
 
 fn broadcasts(report: &mut Report) -> Result<(), Stop> {
-    let mut number = 0u8;
-    for expected in &EXPECTED {
+    for (number, expected) in (0u8..).zip(&EXPECTED) {
         let settings = Settings::read(&sample::codes(number))?;
         let expected = *expected;
-        run_trial(report, &settings, Trial::Broadcast { number, expected })?;
-        number = number.saturating_add(1);
+        run_trial(report, &settings, &Broadcast { number, expected })?;
     }
     Ok(())
 }
@@ -43,13 +41,8 @@ fn run(rt: &HostRuntime) -> Result<(), Stop> {
 fn main(rt: HostRuntime) -> io::Result<ExitCode> {
     match run(&rt) {
         Ok(()) => Ok(ExitCode::SUCCESS),
-        Err(Stop::Refused(refusal)) => {
-            let number = refusal.number();
-            eprintln!(rt; "vectors: refused {number}")?;
-            Ok(ExitCode::FAILURE)
-        }
-        Err(Stop::Failed(error)) => {
-            eprintln!(rt; "vectors: {error}")?;
+        Err(stop) => {
+            eprintln!(rt; "vectors: {stop}")?;
             Ok(ExitCode::FAILURE)
         }
     }

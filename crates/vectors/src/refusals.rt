@@ -1,14 +1,18 @@
 // What is refused, and what only just isn't.
-use super::exchange::started;
+use super::exchange::{send, started};
 use super::report::Report;
-use super::stop::Stop;
 use super::trial::{Trial, run_trial};
-use line::Line;
 use receiver::Receiver;
 use refusal::Refusal;
-use samples::{Generator, naming, table_16};
+use relay::Stop;
+use samples::{naming, table_16};
 use settings::Settings;
 use stage::Stage;
+use std::io;
+
+// Words of QPSK have two bits.
+#[derive(Clone, Copy)]
+pub struct QpskCells;
 
 #[derive(Clone, Copy)]
 pub struct Close {
@@ -46,53 +50,38 @@ fn check_answer(
     report.text(name, found.as_str(), expected)
 }
 
-// Words of QPSK have two bits.
-pub(crate) fn check_cells<P: Stage + Drop>(
-    report: &mut Report,
-    settings: &Settings,
-    receiving: P,
-) -> Result<(), Stop> {
-    let mut receiver = Receiver::new(receiving);
-    receiver.start(&settings.codes())?;
-    check_answer(report, "QPSK cell 3", receiver.hear(3), "accepted")?;
-    check_answer(report, "QPSK cell 4", receiver.hear(4), "refused 21")
-}
-
-// Lets the cells that wait go.
-fn skip_cells<P: Stage>(line: &mut Line<P>) -> Result<(), Stop> {
-    let mut buffer = [0; 4096];
-    for _ in 0..u64::MAX {
-        if line.cells(&mut buffer)? == 0 {
-            break;
-        }
+impl Trial for QpskCells {
+    fn over<P: Stage + Drop>(
+        &self,
+        report: &mut Report,
+        settings: &Settings,
+        _sending: P,
+        receiving: P,
+    ) -> Result<(), Stop> {
+        let mut receiver = Receiver::new(receiving);
+        receiver.start(&settings.codes())?;
+        check_answer(report, "QPSK cell 3", receiver.hear(3), "accepted")?;
+        check_answer(report, "QPSK cell 4", receiver.hear(4), "refused 21")
     }
-    Ok(())
 }
 
-// Made packets, over a line that is started.
-fn send<P: Stage>(line: &mut Line<P>, packets: u32) -> Result<(), Stop> {
-    let mut generator = Generator::new(1);
-    for _ in 0..packets {
-        line.packet(&generator.packet())?;
-        skip_cells(line)?;
+impl Trial for Close {
+    fn over<P: Stage + Drop>(
+        &self,
+        report: &mut Report,
+        settings: &Settings,
+        sending: P,
+        _receiving: P,
+    ) -> Result<(), Stop> {
+        let mut line = started(settings, sending)?;
+        send(&mut line, 1, self.packets, &mut io::sink())?;
+        check_answer(report, self.name, line.close(), self.expected)
     }
-    Ok(())
-}
-
-pub(crate) fn check_close<P: Stage + Drop>(
-    report: &mut Report,
-    settings: &Settings,
-    close: Close,
-    sending: P,
-) -> Result<(), Stop> {
-    let mut line = started(settings, sending)?;
-    send(&mut line, close.packets)?;
-    check_answer(report, close.name, line.close(), close.expected)
 }
 
 fn check_closes(report: &mut Report, settings: &Settings) -> Result<(), Stop> {
     for close in &CLOSES {
-        run_trial(report, settings, Trial::Close(*close))?;
+        run_trial(report, settings, close)?;
     }
     Ok(())
 }
@@ -100,6 +89,6 @@ fn check_closes(report: &mut Report, settings: &Settings) -> Result<(), Stop> {
 // In 2K, QPSK, 1/2.
 pub(crate) fn check(report: &mut Report) -> Result<(), Stop> {
     let settings = Settings::read(&table_16::codes(0, 0))?;
-    run_trial(report, &settings, Trial::Cells)?;
+    run_trial(report, &settings, &QpskCells)?;
     check_closes(report, &settings)
 }

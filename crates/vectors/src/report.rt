@@ -1,5 +1,5 @@
 // Prints the checks as they are made.
-use super::stop::Stop;
+use relay::Stop;
 use samples::tally::line;
 use samples::{Tally, naming};
 use settings::Settings;

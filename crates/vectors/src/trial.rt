@@ -1,47 +1,24 @@
-// What is tried over the standard pile, which is named in one function, `run_trial`: what is done over it is written for any pile.
-use super::refusals::Close;
+// What is tried over a pile is written for any pile. The standard pile is named in one function, `run_trial`.
 use super::report::Report;
-use super::stop::Stop;
-use super::{exchange, refusals};
-use samples::expected::Expected;
+use relay::Stop;
 use settings::Settings;
 use stage::Stage;
 use standard::standard;
 
-#[derive(Clone, Copy)]
-pub enum Trial {
-    Cells,
-    Close(Close),
-    Broadcast { number: u8, expected: Expected },
+pub trait Trial {
+    fn over<P: Stage + Drop>(
+        &self,
+        report: &mut Report,
+        settings: &Settings,
+        sending: P,
+        receiving: P,
+    ) -> Result<(), Stop>;
 }
 
-fn over<P: Stage + Drop>(
+pub(crate) fn run_trial<T: Trial>(
     report: &mut Report,
     settings: &Settings,
-    trial: Trial,
-    sending: P,
-    receiving: P,
+    trial: &T,
 ) -> Result<(), Stop> {
-    match trial {
-        Trial::Cells => refusals::check_cells(report, settings, receiving),
-        Trial::Close(close) => refusals::check_close(report, settings, close, sending),
-        Trial::Broadcast { number, expected } => {
-            let outcome = exchange::carry_out(settings, number, sending, receiving)?;
-            exchange::check(report, settings, outcome, expected)
-        }
-    }
-}
-
-pub(crate) fn run_trial(
-    report: &mut Report,
-    settings: &Settings,
-    trial: Trial,
-) -> Result<(), Stop> {
-    over(
-        report,
-        settings,
-        trial,
-        standard(settings),
-        standard(settings),
-    )
+    trial.over(report, settings, standard(settings), standard(settings))
 }

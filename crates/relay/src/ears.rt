@@ -1,6 +1,11 @@
 // A receiver that hears whatever cells are put into it, and puts the packets that it collects into a sink.
 //
 // A fault or a refused cell ends the hearing; the cells after it are let go.
+ghost use Rattle.std.specs.Prelude.{◌≡◌, ◌+◌, ◌-◌, ◌^◌, min, length, None, OnOk};
+ghost use Rattle.broadcast.specs.Receiver.{nothing};
+ghost use Rattle.receiver.specs.View.{view};
+ghost use Rattle.relay.specs.Waiting.{ready_in};
+
 use super::sink::Sink;
 use receiver::{Missed, Receiver};
 use refusal::Refusal;
@@ -19,7 +24,9 @@ pub struct Ears<P, S> {
 
 impl<P: Stage, S: Sink> Ears<P, S> {
     // Of a receiver that is started.
-    pub(crate) fn new(receiver: Receiver<P>, sink: S) -> Ears<P, S> {
+    pub fn new(receiver: Receiver<P>, sink: S) -> Ears<P, S>
+        ensures { result ≡ record { receiver = receiver; sink = sink; cells = 0; packets = 0; missed = None } }
+    {
         Ears {
             receiver,
             sink,
@@ -30,26 +37,30 @@ impl<P: Stage, S: Sink> Ears<P, S> {
     }
 
     // Collects until nothing more waits.
-    pub(crate) fn collect(&mut self) -> io::Result<()> {
+    pub fn collect(&mut self) -> io::Result<()>
+        ensures cells { self.new.cells ≡ self.old.cells }
+        ensures all { OnOk result (self.new.missed ≡ None → ready_in (view P.Stage.receiving self.new.receiver) ≡ nothing) }
+    {
         let mut packet = [0; 188];
-        for _ in 0..u64::MAX {
+        loop {
             match self.receiver.collect(&mut packet) {
-                Ok(0) => break,
+                Ok(0) => return Ok(()),
                 Ok(_) => {
                     self.packets = self.packets.saturating_add(1);
                     self.sink.put(&packet)?;
                 }
                 Err(missed) => {
                     self.missed = Some(missed);
-                    break;
+                    return Ok(());
                 }
             }
         }
-        Ok(())
     }
 
     // A cell is refused while a packet waits, so one is looked for only then.
-    fn hear(&mut self, cell: u8) -> io::Result<()> {
+    fn hear(&mut self, cell: u8) -> io::Result<()>
+        ensures { OnOk result (self.new.missed ≡ None → self.new.cells ≡ min (self.old.cells + 1) (2 ^ 64 - 1)) }
+    {
         let mut answer = self.receiver.hear(cell);
         if let Err(Refusal::SomethingWaits) = answer {
             self.collect()?;
@@ -68,7 +79,9 @@ impl<P: Stage, S: Sink> Ears<P, S> {
 }
 
 impl<P: Stage, S: Sink> Sink for Ears<P, S> {
-    fn put(&mut self, units: &[u8]) -> io::Result<()> {
+    fn put(&mut self, units: &[u8]) -> io::Result<()>
+        ensures { OnOk result (self.new.missed ≡ None → self.new.cells ≡ min (self.old.cells + length units.now) (2 ^ 64 - 1)) }
+    {
         for cell in units {
             if self.missed.is_some() {
                 break;
