@@ -136,7 +136,7 @@ pub fn digit(number: u16, place: u8) -> u8
 fn word(cells: &[u8], at: usize) -> u8
     ensures { result ≡ slice_index cells.now at }
 {
-    if at < cells.len() { cells[at] } else { 0 }
+    cells.get(at).copied().unwrap_or(0)
 }
 
 // The number of an input bit that stands in a cell, from 14 symbols of 1512 cells whose input bits are the digits of their numbers, the highest first.
@@ -156,14 +156,7 @@ fn told(cells: &[u8], cell: u16, place: u8) -> u16
 pub fn bits(cells: &[u8], cell: u16) -> [u16; 6]
     ensures { result ≡ numbers_of cells.now cell }
 {
-    [
-        told(cells, cell, 5),
-        told(cells, cell, 4),
-        told(cells, cell, 3),
-        told(cells, cell, 2),
-        told(cells, cell, 1),
-        told(cells, cell, 0),
-    ]
+    [5, 4, 3, 2, 1, 0].map(|place| told(cells, cell, place))
 }
 
 // Numbers of bits as the annex prints them.

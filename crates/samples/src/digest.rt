@@ -19,10 +19,8 @@ impl Digest {
     pub fn add(&mut self, units: &[u8])
         ensures { self.new.value ≡ fold mixed self.old.value units.now }
     {
-        let mut value = self.value;
-        for unit in units {
-            value = (value ^ u64::from(*unit)).wrapping_mul(0x100_0000_01b3);
-        }
-        self.value = value;
+        self.value = units.iter().fold(self.value, |value, unit| {
+            (value ^ u64::from(*unit)).wrapping_mul(0x100_0000_01b3)
+        });
     }
 }

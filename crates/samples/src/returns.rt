@@ -8,11 +8,11 @@ use super::generator::Generator;
 
 #[derive(Clone, Copy)]
 pub struct Returns {
-    // How many were sent, how many of them are back as they were, and whether none has differed so far.
+    // How many were sent, and how many of them are back as they were.
     pub sent: u32,
     pub back: u32,
-    pub intact: bool,
-    pub generator: Generator,
+    // What makes the next one, until one has differed.
+    pub next: Option<Generator>,
 }
 
 // Is it the next packet?
@@ -31,8 +31,7 @@ impl Returns {
         Returns {
             sent,
             back: 0,
-            intact: true,
-            generator: Generator::new(seed),
+            next: Some(Generator::new(seed)),
         }
     }
 
@@ -40,10 +39,15 @@ impl Returns {
     pub fn put(&mut self, packet: &[u8])
         ensures { self.new ≡ held self.old packet.now }
     {
-        if self.intact && self.back < self.sent {
-            self.intact = is_next(&mut self.generator, packet);
-            if self.intact {
+        let Some(mut generator) = self.next else {
+            return;
+        };
+        if self.back < self.sent {
+            if is_next(&mut generator, packet) {
                 self.back += 1;
+                self.next = Some(generator);
+            } else {
+                self.next = None;
             }
         }
     }
