@@ -38,7 +38,7 @@ pub(crate) fn settings(rt: &HostRuntime, path: &str) -> Result<Settings, Stop> {
     let file = open(rt, path, "a settings record of 10 bytes")?;
     let mut record = Vec::new(rt.alloc());
     file.take(11).read_to_end(&mut record)?;
-    Ok(Settings::from_record(record.as_slice())?)
+    Ok(Settings::try_from(record.as_slice())?)
 }
 
 // The packets in so many bytes, where they are whole super-frames.

@@ -1,8 +1,8 @@
 // The jobs.
 use super::comparison::Comparison;
-use super::text::{Received, Returned, Sent};
+use super::text::{Ended, Received, Returned, Sent};
 use super::work::Work;
-use super::{files, sending, text};
+use super::{files, sending};
 use chart::{Mark, chart as write_chart};
 use line::Line;
 use receiver::{Missed, Receiver};
@@ -89,10 +89,8 @@ fn hear_all<R: Read, S: Sink, P: Stage>(
 
 // What ended the hearing, if something did.
 fn tell_missed(rt: &HostRuntime, missed: Option<Missed>) -> Result<(), Stop> {
-    match missed {
-        None => {}
-        Some(Missed::Refused(refusal)) => rt.print(text::refused(rt.alloc(), refusal)?)?,
-        Some(Missed::Failed(fault)) => rt.print(text::fault(rt.alloc(), fault)?)?,
+    if let Some(missed) = missed {
+        print!(rt; "{}", Ended(missed))?;
     }
     Ok(())
 }
@@ -150,7 +148,7 @@ impl Work for ReturnTrip<'_> {
             }
         )?;
         tell_missed(rt, ears.missed)?;
-        println!(rt; "{}", ears.sink.verdict())?;
+        print!(rt; "{}", ears.sink.verdict())?;
         Ok(())
     }
 }
@@ -185,7 +183,7 @@ pub(crate) fn chart(rt: &HostRuntime, mode: &str, parity: &str) -> Result<(), St
         after: 0,
     }; 6048];
     write_chart(code, parity, &mut marks)?;
-    let words = Mode::read(code)?.symbol_cells() as usize;
+    let words = Mode::try_from(code)?.symbol_cells() as usize;
     let mut output = BufWriter::new(rt.alloc(), rt.stdout())?;
     for Mark { before, after } in marks.iter().take(words) {
         writeln!(output, "{before} {after}")?;

@@ -36,7 +36,7 @@ fn main(rt: HostRuntime) -> io::Result<ExitCode> {
     match run(&rt) {
         Ok(()) => Ok(ExitCode::SUCCESS),
         Err(Stop::Refused(refusal)) => {
-            rt.print(text::refused(rt.alloc(), refusal)?)?;
+            println!(rt; "{refusal}")?;
             Ok(ExitCode::SUCCESS)
         }
         Err(stop) => {

@@ -1,11 +1,10 @@
 // What the tool prints.
-ghost use Rattle.std.specs.Prelude.{◌≡◌, IfOk, Some, string_bytes};
-ghost use Rattle.bench.specs.Text.{sent as sent_text, received as received_text, returned as returned_text, refused as refused_text, fault as fault_text, verdict as verdict_text};
+ghost use Rattle.std.specs.Prelude.{Some};
+ghost use Rattle.bench.specs.Text.{sent as sent_text, received as received_text, returned as returned_text, missed as missed_text, verdict as verdict_text};
 
 use super::comparison::Verdict;
-use refusal::Refusal;
+use receiver::Missed;
 use stage::Fault;
-use std::alloc::{AllocError, Global};
 use std::fmt;
 
 pub const HELP: &str =
@@ -71,19 +70,19 @@ impl fmt::Display for Returned {
     }
 }
 
-pub(crate) fn refused(heap: Global, refusal: Refusal) -> Result<String, AllocError>
-    ensures { IfOk result (λ text. string_bytes text ≡ refused_text refusal) }
-{
-    let number = refusal.number();
-    format!(in heap; "refused {number}\n")
-}
+// What ended a hearing.
+#[derive(Clone, Copy)]
+pub struct Ended(pub Missed);
 
-pub(crate) fn fault(heap: Global, found: Fault) -> Result<String, AllocError>
-    ensures { IfOk result (λ text. string_bytes text ≡ fault_text found) }
-{
-    let stage = found.stage;
-    let cause = found.cause;
-    format!(in heap; "fault {stage} {cause}\n")
+impl fmt::Display for Ended {
+    ghost output = { λ ended. Some (missed_text ended.0) };
+
+    fn fmt<W: fmt::Write>(&self, f: &mut fmt::Formatter<W>) -> fmt::Result {
+        match self.0 {
+            Missed::Refused(refusal) => write!(f, "{refusal}\n"),
+            Missed::Failed(Fault { stage, cause }) => write!(f, "fault {stage} {cause}\n"),
+        }
+    }
 }
 
 impl fmt::Display for Verdict {
@@ -91,9 +90,9 @@ impl fmt::Display for Verdict {
 
     fn fmt<W: fmt::Write>(&self, f: &mut fmt::Formatter<W>) -> fmt::Result {
         match self {
-            Verdict::Equal => write!(f, "every packet came back"),
-            Verdict::Changed(place) => write!(f, "packet {place} came back changed"),
-            Verdict::Lost(place) => write!(f, "packet {place} didn't come back"),
+            Verdict::Equal => write!(f, "every packet came back\n"),
+            Verdict::Changed(place) => write!(f, "packet {place} came back changed\n"),
+            Verdict::Lost(place) => write!(f, "packet {place} didn't come back\n"),
         }
     }
 }

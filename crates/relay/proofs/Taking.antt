@@ -24,7 +24,7 @@ counts : {n k : ℕ} → counted n ≡ counted k → n ≡ k
 counts e = cc
 
 pub taken : (M : Model) (l l' : Line) (buffer b : List ℕ) (n : ℕ) → outcome (counted n) b l' ≡ step M l (cells buffer) → Taken l l' (length buffer) n
-taken M idle l' buffer b n e = 
+taken M idle l' buffer b n e =
     let answer : counted n ≡ refused 30 = ap (λ o. o.answer) e in
     let z : ◌≡◌ {A = ℕ} 0 1 = cc in absurd (omega arith)
 taken M (opened s k side) l' buffer b n e =

@@ -25,11 +25,7 @@ fn drain<P: Stage, S: Sink>(line: &mut Line<P>, sink: &mut S) -> Result<u64, Sto
     }
 }
 
-pub fn send<P: Stage, S: Sink>(
-    line: &mut Line<P>,
-    packet: &[u8],
-    sink: &mut S,
-) -> Result<u64, Stop>
+pub fn send<P: Stage, S: Sink>(line: &mut Line<P>, packet: &[u8], sink: &mut S) -> Result<u64, Stop>
     ensures { IfOk result (λ cells. Emptied (step (P.Stage.model line.old.pile) (view P.Stage.model P.Stage.sending line.old) (packet_call packet.now)).state (view P.Stage.model P.Stage.sending line.new) cells) }
 {
     line.packet(packet)?;

@@ -6,7 +6,7 @@ use thiserror::Error;
 
 #[derive(Debug, Drop, Error)]
 pub enum Stop {
-    #[error("refused {}", .0.number())]
+    #[error("{0}")]
     Refused(#[from] Refusal),
     // A text that says what is wrong and what to do.
     #[error("{0}")]

@@ -15,4 +15,4 @@ pub mod tally;
 pub use digest::Digest;
 pub use generator::Generator;
 pub use returns::Returns;
-pub use tally::Tally;
+pub use tally::{Check, Tally};

@@ -22,7 +22,7 @@ use trial::run_trial;
 
 fn broadcasts(report: &mut Report) -> Result<(), Stop> {
     for (number, expected) in (0u8..).zip(&EXPECTED) {
-        let settings = Settings::read(&sample::codes(number))?;
+        let settings = Settings::try_from(&sample::codes(number))?;
         let expected = *expected;
         run_trial(report, &settings, &Broadcast { number, expected })?;
     }

@@ -6,7 +6,7 @@ use settings::Settings;
 
 fn check_row(report: &mut Report, row: u8, printed: &[u32; 6]) -> Result<(), Stop> {
     for (column, packets) in (0u8..).zip(printed) {
-        let settings = Settings::read(&table_16::codes(row, column))?;
+        let settings = Settings::try_from(&table_16::codes(row, column))?;
         let found = u64::from(settings.packets());
         report.number(
             "packets per super-frame",

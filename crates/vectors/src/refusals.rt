@@ -88,7 +88,7 @@ fn check_closes(report: &mut Report, settings: &Settings) -> Result<(), Stop> {
 
 // In 2K, QPSK, 1/2.
 pub(crate) fn check(report: &mut Report) -> Result<(), Stop> {
-    let settings = Settings::read(&table_16::codes(0, 0))?;
+    let settings = Settings::try_from(&table_16::codes(0, 0))?;
     run_trial(report, &settings, &QpskCells)?;
     check_closes(report, &settings)
 }

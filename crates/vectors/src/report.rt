@@ -1,9 +1,8 @@
 // Prints the checks as they are made.
 use relay::Stop;
-use samples::tally::line;
-use samples::{Tally, naming};
+use samples::{Check, Tally, naming};
 use settings::Settings;
-use std::alloc::{AllocError, Global};
+use std::alloc::Global;
 
 #[derive(Drop)]
 pub struct Report<'a> {
@@ -24,9 +23,13 @@ impl<'a> Report<'a> {
     }
 
     pub(crate) fn text(&mut self, name: &str, found: &str, expected: &str) -> Result<(), Stop> {
-        let same = self.tally.count(found, expected);
-        self.rt
-            .print(line(self.rt.alloc(), name, same, found, expected)?)?;
+        let check = Check {
+            name,
+            found,
+            expected,
+        };
+        self.tally.count(&check);
+        print!(self.rt; "{check}")?;
         Ok(())
     }
 
@@ -44,7 +47,7 @@ impl<'a> Report<'a> {
     }
 
     pub(crate) fn finish(&self) -> Result<(), Stop> {
-        self.rt.print(self.tally.summary(self.rt.alloc())?)?;
+        print!(self.rt; "{}", self.tally)?;
         Ok(())
     }
 }
