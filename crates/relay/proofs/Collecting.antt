@@ -1,5 +1,5 @@
 -- What a collect takes of the bytes that wait in a receiver.
-use Rattle.std.proofs.Common.{◌≡◌, ℕ, ◌-◌, ◌<◌, ◌≤◌, ◌≢◌, Bool, true, false, cond, not, eqb, ltb, List, [], take, drop, length, get_or, Some, None, Option, refl, ap, ◌∙◌, arith, length-drop, ltb-false, eq-eqb}
+use Rattle.std.proofs.Common.{◌≡◌, ℕ, ◌-◌, ◌<◌, ◌≤◌, ◌≢◌, Bool, true, false, cond, not, eqb, ltb, List, [], take, length, get_or, Some, None, Option, refl, ap, ◌∙◌, arith, length-drop, ltb-false, eq-eqb}
 use Rattle.stage.specs.declared.Fault.{Fault}
 use Rattle.stage.specs.Model.{Heard, Model}
 use Rattle.broadcast.specs.Calls.{refused, failed, counted, check}

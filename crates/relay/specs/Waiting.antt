@@ -1,6 +1,5 @@
 -- What waits in a line or in a receiver, as its calls know it.
 use Rattle.std.specs.Prelude.{◌≡◌, ℕ, ◌-◌, ◌^◌, min, List, [], length}
-use Rattle.stage.specs.Model.{Model}
 use Rattle.broadcast.specs.LineSteps as line
 use Rattle.broadcast.specs.Receiver.{Next, nothing, next}
 use Rattle.broadcast.specs.ReceiverSteps as receiver

@@ -1,6 +1,6 @@
 // Packets for comparison: 47 hex, then 187 bytes of a generator of numbers of 32 bits.
-ghost use Rattle.std.specs.Prelude.{◌≡◌};
-ghost use Rattle.samples.specs.Generator.{stepped, shown, after, packet_from};
+ghost use Rattle.std.specs.Prelude.{◌≡◌, ◌+◌, ◌<◌, ℕ, suc, length, slice_index};
+ghost use Rattle.samples.specs.Generator.{stepped, shown, after, byte_at, packet_from};
 
 #[derive(Clone, Copy)]
 pub struct Generator {
@@ -20,6 +20,18 @@ fn show(state: u32) -> u8
     ((state >> 16) % 256) as u8
 }
 
+// A byte for each step from a state on; answers the last state.
+fn fill(mut state: u32, bytes: &mut [u8]) -> u32
+    ensures bytes { (k : ℕ) → k < length bytes.old → slice_index bytes.new k ≡ byte_at state (suc k) }
+    ensures onward { result ≡ after (length bytes.old) state }
+{
+    for byte in bytes.iter_mut() {
+        state = step(state);
+        *byte = show(state);
+    }
+    state
+}
+
 impl Generator {
     pub fn new(seed: u32) -> Generator
         ensures { result.state ≡ seed }
@@ -33,12 +45,7 @@ impl Generator {
         ensures onward { self.new.state ≡ after 187 self.old.state }
     {
         let mut packet = [0x47; 188];
-        let mut state = self.state;
-        for place in 1..188usize {
-            state = step(state);
-            packet[place] = show(state);
-        }
-        self.state = state;
+        self.state = fill(self.state, &mut packet[1..]);
         packet
     }
 }
