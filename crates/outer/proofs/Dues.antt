@@ -2,31 +2,18 @@
 use Rattle.std.proofs.Common.{◌≡◌, ℕ, zero, suc, ◌-◌, ◌<◌, ◌≤◌, ltb, List, [], ◌∷◌, ◌++◌, length, get_or, take, drop, sym, refl, ap, ◌∙◌, ap₂, arith}
 use Rattle.std.proofs.lemmas.List.{take-append-le}
 use Rattle.std.proofs.lemmas.Bool.{lt-ltb}
-use Rattle.reed.specs.Registers.{bytes_of, sixteen}
 use Rattle.stage.specs.Model.{some}
 
-length_bytes : (n x : ℕ) → length (bytes_of n x) ≡ n
-unfolding bytes_of
-length_bytes zero x = refl
-length_bytes (suc n) x = ap suc (length_bytes n x)
-
-pub some_due : (l x : ℕ) → some (take l (sixteen x)) ≡ ltb 0 l
-unfolding bytes_of
-some_due zero x = refl
-some_due (suc l) x = sym (lt-ltb 0 (suc l) (omega arith))
-
-pub sixteen_long : (x : ℕ) → length (sixteen x) ≡ 16
-sixteen_long x = length_bytes 16 x
+pub some_due : (l : ℕ) (r : List ℕ) → l ≤ length r → some (take l r) ≡ ltb 0 l
+some_due zero r h = refl
+some_due (suc l) [] h = absurd (omega arith)
+some_due (suc l) (x ∷ r) h = sym (lt-ltb 0 (suc l) (omega arith))
 
 -- one byte is taken, and the others move up
-shifted : (r : List ℕ) (l : ℕ) → length r ≡ 16 → 0 < l → l ≤ 16 → take l r ≡ get_or r 0 0 ∷ take (l - 1) (drop 1 r ++ 0 ∷ [])
-shifted [] l e some room = absurd (omega arith)
-shifted (x ∷ r) zero e some room = absurd (omega arith)
-shifted (x ∷ r) (suc l) e some room =
+pub due_taken : (r s : List ℕ) (l b : ℕ) → 0 < l → l ≤ length r → b ≡ get_or r 0 0 → s ≡ drop 1 r ++ 0 ∷ [] → take l r ≡ b ∷ take (l - 1) s
+due_taken [] s l b some room first rest = absurd (omega arith)
+due_taken (x ∷ r) s zero b some room first rest = absurd (omega arith)
+due_taken (x ∷ r) s (suc l) b some room first rest =
     let k : l ≡ suc l - 1 = omega arith in
-    ap (λ w. x ∷ w) (sym (take-append-le l r (0 ∷ []) (omega arith)) ∙ ap (λ i. take i (r ++ 0 ∷ [])) k)
-
-pub due_taken : (x y l b : ℕ) → 0 < l → l ≤ 16 → b ≡ get_or (sixteen x) 0 0 → sixteen y ≡ drop 1 (sixteen x) ++ 0 ∷ []
-    → take l (sixteen x) ≡ b ∷ take (l - 1) (sixteen y)
-due_taken x y l b some room first rest =
-    shifted (sixteen x) l (sixteen_long x) some room ∙ ap₂ (λ c r. c ∷ take (l - 1) r) (sym first) (sym rest)
+    ap₂ (λ (c : ℕ) w. c ∷ w) (sym first)
+    (sym (take-append-le l r (0 ∷ []) (omega arith)) ∙ ap (λ i. take i (r ++ 0 ∷ [])) k ∙ ap (λ w. take (suc l - 1) w) (sym rest))

@@ -2,7 +2,6 @@
 use Rattle.std.specs.Prelude.{ℕ, zero, suc, ◌+◌, Bool, true, false, cond, ◌&&◌, List, [], ◌∷◌, ◌++◌, length, take, drop, Some, None, Ok, Err, Option, Result, ◌==◌, nat_lt}
 use Rattle.reed.specs.Code.{remainder, stepped}
 use Rattle.reed.specs.Field.{power, value}
-use Rattle.reed.specs.Registers.{sixteen}
 use Rattle.stage.specs.declared.Fault.{Fault}
 use Rattle.stage.specs.Machine.{gives, hears_from}
 use Rattle.stage.specs.Model.{Heard, Model, Sending, Receiving, clean, silence, hushed}
@@ -71,7 +70,7 @@ outer_coder = record {
 abbrev pub coder_sending : OuterCoder → Sending
 coder_sending s = record {
   waits = listed s.out ++ s.due;
-  future = coded (record { gone = s.sent; so_far = sixteen s.parity.register });
+  future = coded (record { gone = s.sent; so_far = s.parity });
 }
 
 -- Receiving: a block is gathered, or the bytes of a packet wait from a place on, or the fault.

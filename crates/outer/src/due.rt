@@ -1,6 +1,5 @@
 // The parity of a packet on its way out (EN 300 744, clause 4.3.2): sixteen bytes, which are taken one by one.
-ghost use Rattle.std.specs.Prelude.{◌≡◌, [], ◌∷◌};
-ghost use Rattle.reed.specs.Registers.{sixteen};
+ghost use Rattle.std.specs.Prelude.{◌≡◌, [], ◌∷◌, length};
 ghost use Rattle.stage.specs.Model.{some, first, others};
 
 use reed::Parity;
@@ -14,14 +13,13 @@ pub struct Due {
 
 // Clauses see the bytes that are left, the next one first.
 impl Model for Due {
-    ghost use Rattle.std.specs.Prelude.{ℕ, List, ◌≤◌, take};
-    ghost use Rattle.reed.specs.Registers.{sixteen};
+    ghost use Rattle.std.specs.Prelude.{ℕ, List, ◌≤◌, length, take};
 
     ghost Value = { List ℕ };
 
-    ghost view = { λ d. take d.left (sixteen d.parity.register) };
+    ghost view = { λ d. take d.left d.parity };
 
-    ghost invariant = { λ d. d.left ≤ 16 };
+    ghost invariant = { λ d. d.left ≤ length d.parity };
 }
 
 impl Due {
@@ -35,7 +33,8 @@ impl Due {
     }
 
     pub(crate) fn of(parity: Parity) -> Due
-        ensures { result ≡ sixteen parity.register }
+        requires { length parity ≡ 16 }
+        ensures { result ≡ parity }
     {
         Due { parity, left: 16 }
     }

@@ -1,5 +1,4 @@
 use Rattle.std.proofs.Common.{◌≡◌, ◌-◌, ◌∷◌, take, sym, ap, ◌∙◌, arith}
-use Rattle.reed.specs.Registers.{sixteen}
 use Rattle.stage.specs.Model.{first, others}
 use Rattle.outer.proofs.Dues.{due_taken}
 use Rattle.outer.proofs.due.Due.take.Goals as goal
@@ -7,8 +6,7 @@ use Rattle.outer.proofs.due.Due.take.Goals as goal
 pub returns : goal.returns
 returns c =
     let d = c.self.inside in
-    let y = c.shift.new.self.register in
-    let e : c.args.self.now ≡ c.shift.result ∷ take (d.left - 1) (sixteen y) =
+    let e : c.args.self.now ≡ c.shift.result ∷ take (d.left - 1) c.shift.new.self =
     sym c.self.view_is
-    ∙ due_taken d.parity.register y d.left c.shift.result (omega arith) c.self.invariant c.shift.ensures.first c.shift.ensures.rest in
+    ∙ due_taken d.parity _ d.left c.shift.result (omega arith) c.self.invariant c.shift.ensures.first c.shift.ensures.rest in
     record { answers = sym (ap first e); left = sym (ap others e) }
