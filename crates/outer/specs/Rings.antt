@@ -2,4 +2,4 @@
 use Rattle.std.specs.Prelude.{ℕ, List, ◌++◌, take, drop}
 
 abbrev pub turned : List ℕ → ℕ → List ℕ
-turned store place = drop place store ++ take place store
+turned xs place = drop place xs ++ take place xs

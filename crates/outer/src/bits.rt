@@ -5,6 +5,7 @@ ghost use Rattle.stage.specs.Model.{some, first, others, BelowSome};
 
 use std::marker::Model;
 
+// Like `Due` but for how the next one is worked out: one type for both would need a trait for that alone.
 #[derive(Drop)]
 pub struct Bits {
     byte: u8,

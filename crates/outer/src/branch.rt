@@ -6,7 +6,7 @@ ghost use Rattle.outer.specs.Branches.{oldest};
 use arrayvec::ArrayVec;
 use std::marker::Model;
 
-// The oldest byte stands at `place`, where the store has one.
+// A ring in fixed memory, since the library's allocates: the oldest byte stands at `place`, where the store has one.
 #[derive(Drop)]
 pub struct Branch {
     store: ArrayVec<u8, 187>,
@@ -47,6 +47,7 @@ impl Branch {
         let place = self.place;
         let out = self.store[place];
         self.store[place] = byte;
+        // A comparison: a remainder by the depth would cost a division for each byte.
         self.place = if place + 1 == self.store.len() {
             0
         } else {

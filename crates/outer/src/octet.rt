@@ -4,6 +4,7 @@ ghost use Rattle.outer.specs.Bits.{value_after};
 
 use std::marker::Model;
 
+// One number and how many bits it has: a vector of bits would have to be summed up at the eighth.
 #[derive(Drop)]
 pub struct Octet {
     bits: u8,

@@ -16,6 +16,7 @@ const UNREACHED: Fault = Fault { stage: 1, cause: 3 };
 
 #[derive(Drop)]
 pub struct OuterInterleaver {
+    // The byte that waits stands here: a side shared with energy dispersal would need a trait for what a byte passes.
     leaving: Bank,
     out: Option<u8>,
     arriving: Bank,
