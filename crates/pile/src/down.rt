@@ -21,6 +21,7 @@ impl<U: Stage, L: Stage> Pile<U, L> {
         ensures settled { (L.Stage.sending self.new.lower).waits ≡ [] → (queueing (L.Stage.model self.old.lower) self.new.down (U.Stage.sending self.new.upper)).waits ≡ [] }
         ensures answers { result.waits ≡ some (L.Stage.sending self.new.lower).waits }
     {
+        // Both grow by what each call answers, so no iterator counts them.
         let mut used = 0;
         let mut made = 0;
         loop {

@@ -11,6 +11,7 @@
 --   first, sent; first_heard, collected    what a take answers, and the side after it
 --   heard_of s             the receiving side that does what the sending side s does, with no fault
 -- A name for receiving that has a twin for sending ends in `heard`: `some` and `some_heard`, `after` and `after_heard`.
+-- A fault ends what is heard, so what is heard is no list, and no definition serves both; `heard_of` carries what holds of hearing over to sending.
 use Rattle.std.specs.Prelude.{ℕ, ◌<◌, Bool, true, false, List, [], ◌∷◌, ◌++◌, length, drop, Some, None, Ok, Err, Option, Result}
 use Rattle.refusal.specs.declared.Refusal.{Refusal}
 use Rattle.refusal.specs.declared.Refusal.TheVariants.{UnitTooLarge, SomethingWaits}

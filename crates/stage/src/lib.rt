@@ -107,19 +107,20 @@ pub trait Stage {
         ensures other { receiving self.new ≡ receiving self.old }
         ensures passes { Passes (model self.old) (sending self.old) (sending self.new) input.now output.old output.new result }
     {
-        let mut made = self.send_drain(output);
-        for (used, &unit) in input.iter().enumerate() {
-            if self.send_offer(unit).is_err() {
-                return Passed {
-                    used,
-                    made,
-                    waits: self.send_waits(),
-                };
-            }
+        let mut made = 0;
+        let mut rest = input;
+        loop {
             made += self.send_drain(&mut output[made..]);
+            let [unit, further @ ..] = rest else {
+                break;
+            };
+            if self.send_offer(*unit).is_err() {
+                break;
+            }
+            rest = further;
         }
         Passed {
-            used: input.len(),
+            used: input.len() - rest.len(),
             made,
             waits: self.send_waits(),
         }
