@@ -104,12 +104,8 @@ impl Side {
         self.words.push(unit);
         // A whole symbol's moved words wait, and the next one has the other parity.
         if self.words.len() == symbol {
-            reorder(
-                addresses,
-                self.parity,
-                self.words.as_slice(),
-                &mut self.moved,
-            );
+            let words = self.words.as_slice();
+            reorder(addresses, self.parity, words, &mut self.moved);
             self.words.clear();
             self.at = 0;
             self.parity = self.parity.other();

@@ -79,7 +79,7 @@ fn around(place: usize) -> usize
     if place < WORDS { place } else { place - WORDS }
 }
 
-// The round in which bit p is dealt, and its place among the v bits of the round.
+// The round in which bit p is dealt, and its place among the v bits of the round. Each arm divides by a constant, which a processor does in a few steps, and by v in many.
 fn dealt(constellation: Constellation, p: usize) -> (usize, usize)
     ensures round { result.0 ≡ p / word_bits constellation }
     ensures place { result.1 ≡ p % word_bits constellation }

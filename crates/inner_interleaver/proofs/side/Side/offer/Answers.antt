@@ -14,7 +14,7 @@ use Rattle.inner_interleaver.proofs.side.Side.offer.Goals.{After-reorder}
 moved_is : (c : After-reorder) → c.reorder.new.moved ≡ turned c.args.self.now.parity (c.args.self.now.words.items ++ c.args.unit ∷ []) c.args.self.now.moved c.args.self.now.mode
 moved_is c =
     let s = c.args.self.now in
-    c.reorder.ensures ∙ ap₂ (λ w m. turned s.parity w s.moved m) (c.as_slice.ensures.value ∙ c.push.ensures.items) c.requires
+    c.reorder.ensures ∙ ap₂ (λ w m. turned s.parity w s.moved m) (c.as_slice-words.ensures.value ∙ c.push.ensures.items) c.requires
 
 pub invariant_of-self : goal.invariant_of-self
 invariant_of-self c =
