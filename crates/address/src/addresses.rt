@@ -9,7 +9,7 @@ use settings::Mode;
 #[derive(Drop)]
 pub struct Addresses {
     mode: Mode,
-    // The first N places hold H. No vector: a length that is read at every word is slower than N by the mode.
+    // The first N places hold H; a vector would keep N a second time, beside the mode.
     table: [u16; 6048],
     ghost filled: { take (symbol_cells mode) table ≡ addresses_of mode },
 }
