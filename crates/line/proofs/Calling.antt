@@ -1,8 +1,8 @@
 -- The calls of a line where nothing refuses them, from what their checks have found.
 use Rattle.std.proofs.Common.{◌≡◌, ℕ, ◌+◌, ◌%◌, Bool, true, false, not, eqb, List, [], length, get_or, Some, None, Ok, Err, Option, Result, sym, refl, ap, ◌∙◌, ap₂, arith}
-use Rattle.std.proofs.lemmas.Bool.{eq-eqb, ne_eqb}
+use Rattle.std.proofs.lemmas.Bool.{eq-eqb}
 use Rattle.refusal.specs.declared.Refusal.{Refusal}
-use Rattle.refusal.specs.declared.Refusal.TheVariants.{Closed}
+use Rattle.refusal.specs.declared.Refusal.TheVariants.{NotStarted, Closed}
 use Rattle.refusal.specs.Numbers.{number_of}
 use Rattle.settings.specs.declared.codes.Codes.{Codes}
 use Rattle.settings.specs.declared.Settings.{Settings}
@@ -11,7 +11,7 @@ use Rattle.settings.specs.SuperFrame.{super_frame_packets}
 use Rattle.stage.specs.Model.{Model, Sending, fed, some, new_sending}
 use Rattle.stage.specs.Rule.{Sends}
 use Rattle.stage.proofs.Feeding.{fed-fed}
-use Rattle.broadcast.specs.Calls.{refused, done, check, bytes, closing_packets, unfit, unfit_for, unfit_pile}
+use Rattle.broadcast.specs.Calls.{done, check, bytes, closing_packets, unfit, unfit_for, unfit_pile}
 use Rattle.broadcast.specs.Steps.{Outcome, unless}
 use Rattle.broadcast.specs.Line as calls
 use Rattle.broadcast.specs.LineSteps as steps
@@ -21,7 +21,7 @@ use Rattle.line.specs.declared.frame.Frame.{Frame}
 use Rattle.line.specs.declared.phase.Phase.{Phase}
 use Rattle.line.specs.declared.phase.Phase.TheVariants.{Idle, Open, Closing}
 use Rattle.line.specs.declared.phase.Call.{Call}
-use Rattle.line.specs.declared.phase.Call.TheVariants.{Packet, Close}
+use Rattle.line.specs.declared.phase.Call.TheVariants.{Start, Packet, Close}
 use Rattle.line.specs.View.{done_by, phase_of, admitted, seen, outcome}
 
 -- further bytes, where none is pending
@@ -34,31 +34,28 @@ accepted v l buffer o e = ap (λ v. unless v l buffer o) e
 passes : (b : Bool) (n : ℕ) (rest : Option ℕ) → b ≡ false → rest ≡ None → check b n rest ≡ None
 passes b n rest e f = ap₂ (λ b r. check b n r) e f
 
-impossible : {X : Type 0} {f : Frame} {r : Refusal} → ◌≡◌ {A = Result Frame Refusal} (Err r) (Ok f) → X
+impossible : {X : Type 0} {f : Option Frame} {r : Refusal} → ◌≡◌ {A = Result (Option Frame) Refusal} (Err r) (Ok f) → X
 impossible e = let z : ◌≡◌ {A = ℕ} 0 1 = cc in absurd (omega arith)
 
 -- A call that a closing line refuses is let in by an open one alone, over a pile that takes bytes.
-takes : (call : Call) (b : Bool) (p : Phase) (f : Frame) → ((g : Frame) → admitted (Closing g) call ≡ Err Closed) → admitted (phase_of b p) call ≡ Ok f
-    → (b ≡ true) × (p ≡ Open f)
-takes call false p f k e = impossible e
-takes call true Idle f k e = impossible e
-takes call true (Open g) f k e = (refl, cc)
-takes call true (Closing g) f k e = impossible (sym (k g) ∙ e)
+takes : (call : Call) (b : Bool) (p : Phase) (f : Frame) → admitted Idle call ≡ Err NotStarted → ((g : Frame) → admitted (Closing g) call ≡ Err Closed)
+    → ((g : Frame) → admitted (Open g) call ≡ Ok (Some g)) → admitted (phase_of b p) call ≡ Ok (Some f) → (b ≡ true) × (p ≡ Open f)
+takes call false p f i k o e = impossible (sym i ∙ e)
+takes call true Idle f i k o e = impossible (sym i ∙ e)
+takes call true (Open g) f i k o e = (refl, (let same : ◌≡◌ {A = Result (Option Frame) Refusal} (Ok (Some g)) (Ok (Some f)) = sym (o g) ∙ e in cc))
+takes call true (Closing g) f i k o e = impossible (sym (k g) ∙ e)
+
+-- a start is let in by an idle line
+pub idle_at : (q : Phase) (f : Option Frame) → admitted q Start ≡ Ok f → q ≡ Idle
+idle_at Idle f e = refl
+idle_at (Open g) f e = impossible e
+idle_at (Closing g) f e = impossible e
 
 pub idle_seen : (b : Bool) (side : Sending) → seen (phase_of b Idle) side ≡ steps.idle
 idle_seen true side = refl
 idle_seen false side = refl
 
 module _ (M : Model) where
-  -- a packet with another first byte
-  pub packet_refused : (xs : List ℕ) → length xs ≡ 188 → (get_or xs 0 0 ≡ 0x47 → ⊥) → (q : Phase) (f : Frame) (side : Sending) → admitted q Packet ≡ Ok f
-      → outcome (refused 32) xs (seen q side) ≡ steps.step M (seen q side) (calls.packet xs)
-  packet_refused xs l n Idle f side a = impossible a
-  packet_refused xs l n (Open g) f side a =
-      sym (ap (λ v. unless v (seen (Open g) side) xs (outcome done xs (steps.opened g.settings ((g.begun + 1) % super_frame_packets g.settings) (fed side xs))))
-      (ap₂ (λ b s. check (not b) 15 (check (not s) 32 (check (some side.waits) 31 None))) (eq-eqb (length xs) 188 l) (ne_eqb (get_or xs 0 0) 0x47 n)))
-  packet_refused xs l n (Closing g) f side a = impossible a
-
   -- a packet
   module _ (xs : List ℕ) (whole : length xs ≡ 188) (sync : get_or xs 0 0 ≡ 0x47) where
     open_packet : (f f' : Frame) (side side' : Sending) → side.waits ≡ [] → f'.settings ≡ f.settings
@@ -69,12 +66,12 @@ module _ (M : Model) where
         ∙ sym (accepted (steps.packet_checks side.waits xs) _ xs _
         (passes _ 15 _ (ap not (eq-eqb (length xs) 188 whole)) (passes _ 32 _ (ap not (eq-eqb (get_or xs 0 0) 0x47 sync)) (passes _ 31 None (ap some w) refl))))
 
-    pub packet_does : (b b' : Bool) (p : Phase) (f f' : Frame) (side side' : Sending) → admitted (phase_of b p) Packet ≡ Ok f → b' ≡ b
+    pub packet_does : (b b' : Bool) (p : Phase) (f f' : Frame) (side side' : Sending) → admitted (phase_of b p) Packet ≡ Ok (Some f) → b' ≡ b
         → side.waits ≡ [] → f'.settings ≡ f.settings
         → f'.begun ≡ (f.begun + 1) % super_frame_packets f.settings → side' ≡ fed side xs
         → outcome done xs (seen (phase_of b' (Open f')) side') ≡ steps.step M (seen (phase_of b p) side) (calls.packet xs)
     packet_does b b' p f f' side side' a k w s n e =
-        let t = takes Packet b p f (λ g. refl) a in
+        let t = takes Packet b p f refl (λ g. refl) (λ g. refl) a in
         ap (λ b. outcome done xs (seen (phase_of b (Open f')) side')) (k ∙ t.0)
         ∙ open_packet f f' side side' w s n e
         ∙ sym (λ i. steps.step M (seen (phase_of (t.0 i) (t.1 i)) side) (calls.packet xs))
@@ -87,11 +84,11 @@ module _ (M : Model) where
       ∙ sym (accepted (steps.close_checks f.begun side.waits) _ [] _
       (passes _ 33 _ (ap not (eq-eqb f.begun 0 n)) (passes _ 31 None (ap some w) refl)))
 
-  pub close_does : (b b' : Bool) (p : Phase) (f : Frame) (side side' : Sending) → admitted (phase_of b p) Close ≡ Ok f → b' ≡ b
+  pub close_does : (b b' : Bool) (p : Phase) (f : Frame) (side side' : Sending) → admitted (phase_of b p) Close ≡ Ok (Some f) → b' ≡ b
       → f.begun ≡ 0 → side.waits ≡ [] → side' ≡ fed side (bytes (closing_packets f.settings))
       → outcome done [] (seen (phase_of b' (Closing f)) side') ≡ steps.step M (seen (phase_of b p) side) calls.close
   close_does b b' p f side side' a k n w e =
-      let t = takes Close b p f (λ g. refl) a in
+      let t = takes Close b p f refl (λ g. refl) (λ g. refl) a in
       ap (λ b. outcome done [] (seen (phase_of b (Closing f)) side')) (k ∙ t.0)
       ∙ open_close f side side' n w e
       ∙ sym (λ i. steps.step M (seen (phase_of (t.0 i) (t.1 i)) side) calls.close)

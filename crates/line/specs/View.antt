@@ -1,7 +1,7 @@
 -- What the line's own state means, and what its answers are.
-use Rattle.std.specs.Prelude.{◌≡◌, ℕ, Bool, true, false, List, ◌++◌, drop, replicate, Ok, Err, Result, ◌==◌}
+use Rattle.std.specs.Prelude.{◌≡◌, ℕ, Bool, true, false, List, ◌++◌, drop, replicate, Some, None, Ok, Err, Option, Result, ◌==◌}
 use Rattle.refusal.specs.declared.Refusal.{Refusal}
-use Rattle.refusal.specs.declared.Refusal.TheVariants.{NotStarted, Closed}
+use Rattle.refusal.specs.declared.Refusal.TheVariants.{NotStarted, Started, Closed}
 use Rattle.refusal.specs.Numbers.{number_of}
 use Rattle.stage.specs.Model.{Model, Sending, fed}
 use Rattle.broadcast.specs.Calls.{Answer, refused, done, counted, bytes, null_packet}
@@ -13,7 +13,7 @@ use Rattle.line.specs.declared.frame.Frame.{Frame}
 use Rattle.line.specs.declared.phase.Phase.{Phase}
 use Rattle.line.specs.declared.phase.Phase.TheVariants.{Idle, Open, Closing}
 use Rattle.line.specs.declared.phase.Call.{Call}
-use Rattle.line.specs.declared.phase.Call.TheVariants.{Packet, Cells, Close, Tps}
+use Rattle.line.specs.declared.phase.Call.TheVariants.{Start, Packet, Cells, Close, Tps}
 use Rattle.line.specs.declared.feed.Feed.{Feed}
 use Rattle.line.specs.declared.Line.{Line}
 
@@ -46,14 +46,23 @@ abbrev pub phase_of : Bool → Phase → Phase
 phase_of true p = p
 phase_of false p = Idle
 
--- the frame that a call goes by, and what is refused by the phase and the call together
-abbrev pub admitted : Phase → Call → Result Frame Refusal
-admitted Idle c = Err NotStarted
-admitted (Open f) c = Ok f
+-- the frame that a call goes by, which a start has none of, and what is refused by the phase and the call together
+abbrev pub admitted : Phase → Call → Result (Option Frame) Refusal
+admitted Idle Start = Ok None
+admitted Idle Packet = Err NotStarted
+admitted Idle Cells = Err NotStarted
+admitted Idle Close = Err NotStarted
+admitted Idle Tps = Err NotStarted
+admitted (Open f) Start = Err Started
+admitted (Open f) Packet = Ok (Some f)
+admitted (Open f) Cells = Ok (Some f)
+admitted (Open f) Close = Ok (Some f)
+admitted (Open f) Tps = Ok (Some f)
+admitted (Closing f) Start = Err Started
 admitted (Closing f) Packet = Err Closed
-admitted (Closing f) Cells = Ok f
+admitted (Closing f) Cells = Ok (Some f)
 admitted (Closing f) Close = Err Closed
-admitted (Closing f) Tps = Ok f
+admitted (Closing f) Tps = Ok (Some f)
 
 abbrev pub seen : Phase → Sending → steps.Line
 seen Idle side = steps.idle

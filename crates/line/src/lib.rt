@@ -55,14 +55,16 @@ impl<P: Stage> Line<P> {
         }
     }
 
-    // The frame that a call goes by, where phase and call together let it in. A start goes by none.
-    fn admit(&self, call: Call) -> Result<Frame, Refusal>
+    // What phase and call together let in: the frame that the call goes by, which a start has none of.
+    fn admit(&self, call: Call) -> Result<Option<Frame>, Refusal>
         ensures { result ≡ admitted (phase_of ((P.Stage.model self.now.feed.pile).taken == 256) self.now.phase) call }
     {
         match (self.phase(), call) {
+            (Phase::Idle, Call::Start) => Ok(None),
             (Phase::Idle, _) => Err(Refusal::NotStarted),
+            (_, Call::Start) => Err(Refusal::Started),
             (Phase::Closing(_), Call::Packet | Call::Close) => Err(Refusal::Closed),
-            (Phase::Open(frame) | Phase::Closing(frame), _) => Ok(frame),
+            (Phase::Open(frame) | Phase::Closing(frame), _) => Ok(Some(frame)),
         }
     }
 }
@@ -95,9 +97,7 @@ impl<P: Stage> Line<P> {
     {
         holds(&self.feed.pile);
         identified(codes);
-        let Phase::Idle = self.phase() else {
-            return Err(Refusal::Started);
-        };
+        self.admit(Call::Start)?;
         let settings = fit(&self.feed.pile, codes)?;
         self.feed.renew();
         self.phase = Phase::Open(Frame::new(settings));
@@ -112,17 +112,20 @@ impl<P: Stage> Line<P> {
         ensures holds { HoldsOver (P.Stage.model self.old.feed.pile) }
     {
         holds(&self.feed.pile);
-        let frame = self.admit(Call::Packet)?;
-        let Some(bytes) = packet.as_array::<188>() else {
+        let frame = self.admit(Call::Packet)?.unwrap();
+        let [sync, rest @ ..] = packet else {
             return Err(Refusal::PacketLength);
         };
-        if bytes[0] != 0x47 {
+        if rest.len() != 187 {
+            return Err(Refusal::PacketLength);
+        }
+        if *sync != 0x47 {
             return Err(Refusal::FirstByte);
         }
         if self.feed.pump() {
             return Err(Refusal::CellsWait);
         }
-        self.feed.pending.set_packet(*bytes);
+        self.feed.pending.set_packet(packet);
         self.phase = Phase::Open(frame.counted());
         Ok(())
     }
@@ -147,7 +150,7 @@ impl<P: Stage> Line<P> {
         ensures holds { HoldsOver (P.Stage.model self.old.feed.pile) }
     {
         holds(&self.feed.pile);
-        let frame = self.admit(Call::Close)?;
+        let frame = self.admit(Call::Close)?.unwrap();
         if frame.begun != 0 {
             return Err(Refusal::PartSuperFrame);
         }
@@ -166,7 +169,7 @@ impl<P: Stage> Line<P> {
         ensures holds { HoldsOver (P.Stage.model self.now.feed.pile) }
     {
         holds(&self.feed.pile);
-        let super_frame = self.admit(Call::Tps)?;
+        let super_frame = self.admit(Call::Tps)?.unwrap();
         write_block(&super_frame.settings, frame, buffer)
     }
 }

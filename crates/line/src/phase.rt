@@ -1,4 +1,4 @@
-// A line's phase, with its frame once it is started, and the calls that go by a frame.
+// A line's phase, with its frame once it is started, and the calls.
 use super::frame::Frame;
 
 #[derive(Clone, Copy)]
@@ -10,6 +10,7 @@ pub enum Phase {
 
 #[derive(Clone, Copy)]
 pub enum Call {
+    Start,
     Packet,
     Cells,
     Close,
