@@ -62,7 +62,7 @@ impl Work for Sending<'_> {
     }
 }
 
-// Hears a file of cells, a piece at a time.
+// Hears a file of cells, a piece at a time. Only the input knows where it ends, so the loop has no measure.
 fn hear_all<R: Read, S: Sink, P: Stage>(
     rt: &impl Eprint,
     input: &mut R,

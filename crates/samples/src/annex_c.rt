@@ -140,6 +140,7 @@ fn word(cells: &[u8], at: usize) -> u8
 }
 
 // The number of an input bit that stands in a cell, from 14 symbols of 1512 cells whose input bits are the digits of their numbers, the highest first.
+// By number and not by chunks, since a cell that is missing has digits too, which are 0.
 fn told(cells: &[u8], cell: u16, place: u8) -> u16
     ensures { result ≡ number_of cells.now cell place 14 }
 {

@@ -1,4 +1,4 @@
-// Settings and answers in words.
+// Settings and answers in words, as strings, since a check compares texts.
 ghost use Rattle.std.specs.Prelude.{◌≡◌, IfOk, string_bytes};
 ghost use Rattle.samples.specs.Naming.{settings_name, answer_name};
 

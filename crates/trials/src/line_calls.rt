@@ -5,8 +5,10 @@ use refusal::Refusal;
 use stage::Stage;
 use std::process::Abort;
 
+// Longer than the buffer of most calls, so that a write past it shows.
 const ROOM: usize = 2000;
 
+// A value and no closure, since one table is tried over piles of several types.
 #[derive(Clone, Copy)]
 pub enum Call {
     // With the codes of mode, constellation, rate and guard.

@@ -21,7 +21,7 @@ pub struct Close {
     expected: &'static str,
 }
 
-// Super-frames are whole.
+// Super-frames are whole. The expected answers are texts, so that the number of a refusal is checked too.
 const CLOSES: [Close; 3] = [
     Close {
         name: "close after 0 of 252 packets",
