@@ -1,4 +1,4 @@
-// A line's phase, with its frame once it is started, and the calls.
+// A line's phase, with its frame once it is started, and the calls, which are matched together in one place (`admit`).
 use super::frame::Frame;
 
 #[derive(Clone, Copy)]

@@ -1,4 +1,4 @@
-// The two ways along the addresses, each in one pass.
+// The two ways along the addresses, each in one pass. One writes at the address and the other reads there, so they are no twins.
 ghost use Rattle.std.specs.Prelude.{◌≡◌, ℕ, ◌≤◌, length, slice_index_or};
 ghost use Rattle.address.specs.Permutation.{Permutes};
 ghost use Rattle.permute.specs.Permuted.{Moved};

@@ -26,7 +26,7 @@ fn drain<P: Stage, S: Sink>(line: &mut Line<P>, sink: &mut S) -> Result<u64, Sto
 }
 
 pub fn send<P: Stage, S: Sink>(line: &mut Line<P>, packet: &[u8], sink: &mut S) -> Result<u64, Stop>
-    ensures { IfOk result (λ cells. Emptied (step (P.Stage.model line.old.pile) (view P.Stage.model P.Stage.sending line.old) (packet_call packet.now)).state (view P.Stage.model P.Stage.sending line.new) cells) }
+    ensures { IfOk result (λ cells. Emptied (step (P.Stage.model line.old.feed.pile) (view P.Stage.model P.Stage.sending line.old) (packet_call packet.now)).state (view P.Stage.model P.Stage.sending line.new) cells) }
 {
     line.packet(packet)?;
     drain(line, sink)
@@ -34,7 +34,7 @@ pub fn send<P: Stage, S: Sink>(line: &mut Line<P>, packet: &[u8], sink: &mut S) 
 
 // Sends the closing super-frame.
 pub fn close<P: Stage, S: Sink>(line: &mut Line<P>, sink: &mut S) -> Result<u64, Stop>
-    ensures { IfOk result (λ cells. Emptied (step (P.Stage.model line.old.pile) (view P.Stage.model P.Stage.sending line.old) close_call).state (view P.Stage.model P.Stage.sending line.new) cells) }
+    ensures { IfOk result (λ cells. Emptied (step (P.Stage.model line.old.feed.pile) (view P.Stage.model P.Stage.sending line.old) close_call).state (view P.Stage.model P.Stage.sending line.new) cells) }
 {
     line.close()?;
     drain(line, sink)

@@ -33,6 +33,7 @@ pub struct Passed {
     pub waits: bool,
 }
 
+// What a call leaves as it was (`fixed`, `other`) relates two states, so each method says it and no invariant can.
 pub trait Stage {
     // What is fixed, and the two sides as they are now.
     ghost model: { Self → Model };
@@ -41,6 +42,7 @@ pub trait Stage {
 
     ghost receiving: { Self → Receiving };
 
+    // What is fixed of a stage has no default: only the stage's own model says it.
     fn taken(&self) -> u16
         ensures { result ≡ (model self.now).taken };
 

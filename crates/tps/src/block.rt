@@ -43,7 +43,7 @@ fn byte_of(frame: u8, identifier: Option<u16>) -> u32
     }
 }
 
-// Table 9, s1 to s53.
+// Table 9, s1 to s53. Settings and frame come apart: a struct of both would be made by each caller for one call.
 fn fields(settings: &Settings, frame: u8) -> [Field; 11]
     requires { 1 ≤ frame }
     ensures { result ≡ fields_of settings.now frame }

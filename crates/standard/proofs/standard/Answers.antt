@@ -25,7 +25,7 @@ returns c =
     (c.over-serialized.ensures serializer (coded_for m k r)
     (record { model_is = refl; sends = c.new.ensures.sends; hears = c.new.ensures.hears })
     (c.over-coded.ensures (inner_code r) (words_for m k)
-    (record { model_is = ap inner_code c.of-2.ensures.model; sends = c.of-2.ensures.sends; hears = c.of-2.ensures.hears })
+    (record { model_is = c.of-2.ensures.model; sends = c.of-2.ensures.sends; hears = c.of-2.ensures.hears })
     (c.over-words.ensures (bit_interleaving k) (symbol_interleaving m k)
     (record { model_is = ap bit_interleaving c.of.ensures.model; sends = c.of.ensures.sends; hears = c.of.ensures.hears })
     (record { model_is = c.of-symbols.ensures.model; sends = c.of-symbols.ensures.sends; hears = c.of-symbols.ensures.hears }))))))
