@@ -105,17 +105,6 @@ module _ (M : Model) where
         → Drains N s₁ s₂ (take (length out₁ - m) (drop m out₁)) rest n → Drains M s s₂ out (put_mid m (length out₁ - m) out₁ rest) (m + n)
     drains_then {n = n} same d = record { gives = gives_then (ap (λ m. m.given) same) d.gives; all_that_fit = λ h. d.all_that_fit (room_left n h) }
 
--- What is left of an input, as its first unit is taken off.
-module _ (input rest : List ℕ) (some : 1 ≤ length rest) (within : length rest ≤ length input) (left : rest ≡ drop (length input - length rest) input) where
-  pub first_left : get_or rest 0 0 ≡ get_or input (length input - length rest) 0
-  first_left = ap (λ r. get_or r 0 0) (left ∙ drop_more input (length input - length rest) 0 (omega arith))
-
-  pub further_left : take (length rest - 1) (drop 1 rest) ≡ drop ((length input - length rest) + 1) input
-  further_left = between_to_end rest 1 (length rest) (omega arith) ∙ ap (drop 1) left ∙ drop-drop 1 (length input - length rest) input
-
-  pub further_used : length input - length (take (length rest - 1) (drop 1 rest)) ≡ (length input - length rest) + 1
-  further_used = omega (arith, ap length further_left, length-drop ((length input - length rest) + 1) input)
-
 -- a pass has drained the side, and asking what waits alters nothing
 pub passed_by : (M : Model) {s s₁ s₂ : Sending} {input out out₁ : List ℕ} (used : ℕ) {made : ℕ} {waits : Bool} → used ≤ length input → Under M.taken (take used input)
     → Drains M (fed s (take used input)) s₁ out out₁ made → (s₁.waits ≡ [] → fitting M.taken (drop used input) ≡ [])

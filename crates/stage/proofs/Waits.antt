@@ -51,9 +51,6 @@ none_waits ws e = ap (λ h. h.units) (nothing_heard (clean ws) (clean_some ws �
 pub first_waits : (ws : List ℕ) (v : ℕ) → first ws ≡ Some v → ws ≡ v ∷ others ws
 first_waits ws v e = unit-heard (clean ws) v (clean_first ws ∙ ap Ok e)
 
-pub no_first : (ws : List ℕ) → first ws ≡ None → ws ≡ []
-no_first ws e = ap (λ h. h.units) (none_heard (clean ws) (clean_first ws ∙ ap Ok e))
-
 -- The rest of a list from a place on.
 pub some-rest : (xs : List ℕ) (n at : ℕ) → length xs ≡ n → some (drop at xs) ≡ ltb at n
 some-rest xs n at l =

@@ -109,20 +109,18 @@ pub trait Stage {
         ensures other { receiving self.new ≡ receiving self.old }
         ensures passes { Passes (model self.old) (sending self.old) (sending self.new) input.now output.old output.new result }
     {
+        // A `for` over the input and a slice taken off its front were tried: both send more slowly.
+        let mut used = 0;
         let mut made = 0;
-        let mut rest = input;
         loop {
             made += self.send_drain(&mut output[made..]);
-            let [unit, further @ ..] = rest else {
-                break;
-            };
-            if self.send_offer(*unit).is_err() {
+            if used >= input.len() || self.send_offer(input[used]).is_err() {
                 break;
             }
-            rest = further;
+            used += 1;
         }
         Passed {
-            used: input.len() - rest.len(),
+            used,
             made,
             waits: self.send_waits(),
         }
