@@ -29,6 +29,7 @@ impl InnerCoder {
     }
 
     pub fn of(rate: Rate) -> InnerCoder
+        ensures rate { result.sending.rate ≡ rate }
         ensures model { model_of result ≡ inner_code rate }
         ensures sends { sending_of result ≡ new_sending (inner_code rate) }
         ensures hears { receiving_of result ≡ new_receiving (inner_code rate) }
