@@ -1,3 +1,2 @@
-mod Loading
 mod Filling
 mod Calling

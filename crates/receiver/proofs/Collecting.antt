@@ -1,10 +1,8 @@
 -- The calls of a receiver, from what their checks have found.
-use Rattle.std.proofs.Common.{◌≡◌, ℕ, ◌<◌, Bool, true, false, cond, not, eqb, ltb, List, [], ◌∷◌, ◌++◌, length, get_or, take, is_some as option_is_some, Some, None, Ok, Err, Option, Result, sym, refl, ap, ◌∙◌, ap₂, arith, length-append}
+use Rattle.std.proofs.Common.{◌≡◌, ℕ, ◌<◌, Bool, true, false, cond, not, eqb, ltb, List, [], ◌∷◌, ◌++◌, length, get_or, take, is_some as option_is_some, Some, None, Ok, Err, Option, sym, refl, ap, ◌∙◌, ap₂, arith, length-append}
 use Rattle.std.proofs.lemmas.List.{append-nil, take_at, drop_at, get_or_append_left}
 use Rattle.std.proofs.lemmas.Bool.{lt-ltb, le-ltb, eq-eqb}
-use Rattle.std.specs.Result.{result_unwrap_or}
-use Rattle.stage.specs.declared.Fault.{Fault}
-use Rattle.stage.specs.Model.{Heard, Model, Receiving, silence, told, heard, some_heard, after_heard, new_receiving}
+use Rattle.stage.specs.Model.{Model, Receiving, silence, told, heard, some_heard, after_heard, new_receiving}
 use Rattle.stage.proofs.Offers.{offer_heard}
 use Rattle.refusal.specs.declared.Refusal.{Refusal}
 use Rattle.refusal.specs.Numbers.{number_of}
@@ -18,23 +16,7 @@ use Rattle.broadcast.specs.Receiver.{next, is_some, fault_next, a_packet, a_faul
 use Rattle.broadcast.specs.ReceiverSteps as steps
 use Rattle.broadcast.specs.ReceiverSteps.{handing, handed}
 use Rattle.broadcast.proofs.Deciding.{start-accepted, start-refused}
-use Rattle.receiver.specs.View.{held, found, none_or, tuned_by, outcome, done_by}
-
--- what was found is what is next
-pub found_is : (h : Heard) → result_unwrap_or (found h) true ≡ is_some (next h)
-found_is h = go (ltb (length h.units) 188) (eqb (get_or h.units 0 0) 0x47) h.fault
-  where
-    go : (l s : Bool) (f : Option Fault) → result_unwrap_or (cond l (none_or f) (Ok true)) true
-        ≡ is_some (cond l (fault_next f) (cond s (a_packet (take 188 h.units)) (a_fault (record { stage = 0; cause = 5 }))))
-    go true s None = refl
-    go true s (Some f) = refl
-    go false true f = refl
-    go false false f = refl
-
-pub ok_false : (r : Result Bool Fault) → result_unwrap_or r true ≡ false → r ≡ Ok false
-ok_false (Ok true) e = let z : ◌≡◌ {A = ℕ} 0 1 = cc in absurd (omega arith)
-ok_false (Ok false) e = refl
-ok_false (Err f) e = let z : ◌≡◌ {A = ℕ} 0 1 = cc in absurd (omega arith)
+use Rattle.receiver.specs.View.{held, tuned_by, outcome, done_by}
 
 module _ (M : Model) (o : Option Settings) (s : Settings) (is : o ≡ Some s) where
   -- a hear that is refused since something waits
