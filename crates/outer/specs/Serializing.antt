@@ -1,11 +1,13 @@
 -- Bytes and their bits, and the rule for the serializer.
-use Rattle.std.specs.Prelude.{◌≡◌, ℕ, zero, suc, ◌+◌, ◌-◌, ◌*◌, ◌/◌, ◌%◌, ◌^◌, ◌<◌, ◌≤◌, List, [], ◌∷◌, ◌++◌, length, refl}
-use Rattle.std.proofs.Common.{lit≤, length-append, inr, sym, ap, ◌∙◌, pow-suc, mul_assoc, one-add, arith}
+use Rattle.std.specs.Prelude.{◌≡◌, ℕ, zero, suc, ◌+◌, ◌-◌, ◌*◌, ◌/◌, ◌%◌, ◌^◌, ◌<◌, ◌≤◌, List, [], ◌∷◌, ◌++◌, length, nat_lt, refl}
+use Rattle.std.proofs.Common.{lit≤, length-append, inr, sym, ap, ap₂, ◌∙◌, pow-suc, mul_assoc, add-one, one-add, arith}
 use Rattle.std.proofs.Math.Nat.{pow-succ'}
 use Rattle.std.proofs.lemmas.Nat.{shr-shr, mul-le}
 use Rattle.std.proofs.ByRecursion.{All-push}
+use Rattle.std.proofs.lemmas.Bool.{lt-ltb}
 use Rattle.stage.proofs.Blocks.{blocks_rule}
 use Rattle.stage.specs.Blocks.{Coding}
+use Rattle.stage.specs.Model.{some}
 use Rattle.stage.specs.Rule.{Rule, Under}
 use Rattle.outer.specs.Bits.{last_bits, value_after}
 use Rattle.outer.specs.Serializer.{bits_of, byte_of, same, eighths, serializer}
@@ -17,6 +19,13 @@ length_last_bits (suc n) x = length-append (last_bits n (x / 2)) (x % 2 ∷ []) 
 last_bits_under : (n x : ℕ) → Under 2 (last_bits n x)
 last_bits_under zero x = tt
 last_bits_under (suc n) x = All-push (λ b. b < 2) (last_bits n (x / 2)) (x % 2) (last_bits_under n (x / 2)) (omega arith)
+
+-- one bit more
+pub last_bits_more : (n x b : ℕ) → b < 2 → last_bits (n + 1) (x * 2 + b) ≡ last_bits n x ++ b ∷ []
+last_bits_more n x b h =
+    let p : (x * 2 + b) / 2 ≡ x = omega arith in
+    let q : (x * 2 + b) % 2 ≡ b = omega arith in
+    ap (λ k. last_bits k (x * 2 + b)) (add-one n) ∙ ap₂ (λ y c. last_bits n y ++ c ∷ []) p q
 
 -- the first bit
 last_bits_first : (n x : ℕ) → last_bits (suc n) x ≡ (x / 2 ^ n) % 2 ∷ last_bits n x
@@ -49,6 +58,15 @@ value_below a (b ∷ bs) h =
     let e : (a * 2 + 2) * p ≡ (a + 1) * 2 ^ suc (length bs) =
     ap (λ k. k * p) t ∙ mul_assoc (a + 1) 2 p ∙ ap (λ k. (a + 1) * k) (sym (pow-succ' 2 (length bs))) in
     omega (arith, r, s, e)
+
+-- the bits gathered with one more
+pub gathered_small : (have bits unit : ℕ) → bits < 2 ^ have → unit < 2 → bits * 2 + unit < 2 ^ (have + 1)
+gathered_small have bits unit h u = omega (arith, ap (λ k. 2 ^ k) (add-one have), pow-suc 2 have)
+
+-- what waits of a byte
+pub some_last_bits : (n x : ℕ) → some (last_bits n x) ≡ nat_lt 0 n
+some_last_bits zero x = refl
+some_last_bits (suc n) x = ap some (last_bits_first n x) ∙ sym (lt-ltb 0 (suc n) (omega arith))
 
 pub last_bits_taken : (n x : ℕ) → 0 < n → last_bits n x ≡ (x / 2 ^ (n - 1)) % 2 ∷ last_bits (n - 1) x
 last_bits_taken zero x h = absurd (omega arith)

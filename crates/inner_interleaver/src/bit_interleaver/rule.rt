@@ -120,12 +120,15 @@ impl Stage for BitInterleaver {
 
     fn send_drain(&mut self, output: &mut [u8]) -> usize {
         let first = self.at;
-        let made = output.len().min(WORDS - first);
-        for k in 0..made {
-            output[k] = word(self.constellation, &self.bits, first + k);
+        for (made, place) in output.iter_mut().enumerate() {
+            if WORDS <= first + made {
+                self.at = WORDS;
+                return made;
+            }
+            *place = word(self.constellation, &self.bits, first + made);
         }
-        self.at = first + made;
-        made
+        self.at = first + output.len();
+        output.len()
     }
 
     // The words of a block go out before bits of the next one are gathered. How far a step comes in both slices it answers itself, so no iterator goes over them.
