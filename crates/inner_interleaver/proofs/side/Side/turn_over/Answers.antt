@@ -1,4 +1,4 @@
-use Rattle.std.proofs.Common.{length, get_or, subst, ◌<◌, ◌^◌, ◌∙◌, List, ℕ, sym, ap, arith}
+use Rattle.std.proofs.Common.{get_or, subst, ◌<◌, ◌^◌, ◌∙◌, List, ℕ, sym, ap, arith}
 use Rattle.settings.specs.Constellation.{word_bits}
 use Rattle.inner_interleaver.specs.Symbols.{symbol_some}
 use Rattle.inner_interleaver.proofs.SymbolSides.{turned, moved_below}
