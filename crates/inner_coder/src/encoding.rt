@@ -7,7 +7,7 @@ ghost use Rattle.inner_coder.specs.Coder.{inner_code, idle_at};
 ghost use Rattle.inner_coder.specs.Convolution.{emitted};
 ghost use Rattle.inner_coder.specs.Walks.{walk_of};
 
-use super::convolution::{Walk, first_unit, output_y};
+use super::convolution::{Walk, first_unit, output_x, output_y};
 use super::puncturing::Sent;
 
 // The walk behind the bits that were coded, how many they were, and how many units they became. A walk can't tell whether something waits, as `Passed` would say.
@@ -24,12 +24,17 @@ fn emit(sent: Sent, register: u8, output: &mut [u8]) -> usize
     ensures count { result ≡ length (emitted sent register) }
     ensures written { output.new ≡ emitted sent register ++ drop result output.old }
 {
-    output[0] = first_unit(sent, register);
-    if sent != Sent::Both {
-        return 1;
+    match sent {
+        Sent::Both => {
+            output[0] = output_x(register);
+            output[1] = output_y(register);
+            2
+        }
+        Sent::X | Sent::Y => {
+            output[0] = first_unit(sent, register);
+            1
+        }
     }
-    output[1] = output_y(register);
-    2
 }
 
 // Codes bits from the front of the input, while there is room for both units of one. A unit that is no bit ends it.
