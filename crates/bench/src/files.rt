@@ -8,6 +8,7 @@ use std::fs::File;
 use std::io::{BufReader, BufWriter, Read};
 use std::{fs, io};
 
+// A `match` here and below, and no `map_err`: a text wants memory, which can run out.
 fn given(rt: &HostRuntime, path: &str, found: io::Result<File>, what: &str) -> Result<File, Stop> {
     match found {
         Ok(file) => Ok(file),

@@ -1,4 +1,4 @@
-// What the tool can be asked for.
+// What the tool can be asked for: what a word names, matched once with its operands.
 ghost use Rattle.bench.specs.Job.{Names};
 
 use std::str::FromStr;

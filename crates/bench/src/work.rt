@@ -1,3 +1,4 @@
+// Like the trait of vectors but for what is told of the work. One over both would be over that type, with the lifetime that it has.
 // What is done over a pile is written for any pile. The standard pile is named in one function, `over_standard`.
 use relay::Stop;
 use settings::Settings;

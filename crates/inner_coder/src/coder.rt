@@ -14,9 +14,9 @@ pub struct InnerCoder {
     // What of the last bit is not taken yet.
     waits: Left,
     hearing: Walk,
-    // The second unit of the last bit is still to come.
+    // The second unit of the last bit is still to come. No value goes with it.
     second: bool,
-    // A bit heard that is not taken yet, or the fault.
+    // A bit heard that is not taken yet, or the fault. `Result` says it all, so no type stands over this and the outer interleaver's.
     arrived: Result<Option<u8>, Fault>,
     ghost one_rate: { hearing.rate ≡ sending.rate },
     ghost small: { ∥ BelowOk 2 arrived ∥₁ },

@@ -44,6 +44,7 @@ pub(crate) fn encode(mut walk: Walk, input: &[u8], output: &mut [u8]) -> Coded
     ensures fits { Under 2 (take result.used input.now) }
     ensures gives { Gives (inner_code walk.rate) (fed (idle_at walk.rate (walk_of walk)) (take result.used input.now)) (idle_at walk.rate (walk_of result.walk)) output.old output.new result.made }
 {
+    // It grows by what `emit` answers, so no iterator counts it.
     let mut made = 0;
     for (used, bit) in input.iter().enumerate() {
         if *bit >= 2 || output.len() < made + 2 {

@@ -13,7 +13,7 @@ pub struct Feed<P> {
     pub pending: Pending,
 }
 
-// Hands bytes on to a pile that takes every byte.
+// Hands bytes on to a pile that takes every byte. That it does is asked by each call and no invariant: an idle line may stand over any pile.
 fn hand_on<P: Stage>(pile: &mut P, bytes: &[u8], buffer: &mut [u8]) -> Passed
     requires { (P.Stage.model pile.old).taken ≡ 256 }
     ensures fixed { P.Stage.model pile.new ≡ P.Stage.model pile.old }

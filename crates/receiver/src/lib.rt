@@ -23,6 +23,9 @@ pub mod missed;
 
 pub use missed::Missed;
 
+// A packet doesn't begin as packets do.
+const FIRST_BYTE: Fault = Fault { stage: 0, cause: 5 };
+
 #[derive(Drop)]
 pub struct Receiver<P> {
     gatherer: Gatherer<P>,
@@ -106,7 +109,7 @@ impl<P: Stage> Receiver<P> {
             return Ok(0);
         }
         if self.gatherer.packet[0] != 0x47 {
-            return Err(Missed::Failed(Fault { stage: 0, cause: 5 }));
+            return Err(Missed::Failed(FIRST_BYTE));
         }
         buffer.copy_from_slice(&self.gatherer.packet);
         self.gatherer.packet.clear();

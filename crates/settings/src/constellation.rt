@@ -12,6 +12,7 @@ pub enum Constellation {
     Qam64 = 2,
 }
 
+// A table of its own, a code beside its value: nothing is written over all four.
 impl TryFrom<u8> for Constellation {
     type Error = Refusal;
 

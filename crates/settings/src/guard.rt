@@ -12,6 +12,7 @@ pub enum Guard {
     Quarter = 3,
 }
 
+// A table of its own, a code beside its value: nothing is written over all four.
 impl TryFrom<u8> for Guard {
     type Error = Refusal;
 

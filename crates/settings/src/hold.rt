@@ -1,6 +1,7 @@
 // The hold of the standard coder: how many bytes at most are not back yet while the last m cells are unheard.
 // Each stage, from the cells up, says how much of its input the missing output holds back: symbol interleaver,
 // bit interleaver, inner coder, serializer, outer interleaver, outer coder, dispersal.
+// `settings` stands below the stages and has no pile to ask, so their formulas stand here again; `standard` shows the two equal.
 ghost use Rattle.std.specs.Prelude.{◌≡◌};
 ghost use Rattle.settings.specs.Hold.{standard_hold};
 

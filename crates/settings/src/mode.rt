@@ -11,6 +11,7 @@ pub enum Mode {
     EightK = 1,
 }
 
+// A table of its own, a code beside its value: nothing is written over all four.
 impl TryFrom<u8> for Mode {
     type Error = Refusal;
 

@@ -14,6 +14,7 @@ pub enum Rate {
     SevenEighths = 4,
 }
 
+// A table of its own, a code beside its value: nothing is written over all four.
 impl TryFrom<u8> for Rate {
     type Error = Refusal;
 

@@ -14,7 +14,7 @@ const REFUSED: [([u8; 10], u8); 8] = [
     ([0, 8, 1, 2, 0, 0, 0, 0, 0, 1], 18),
 ];
 
-// The sheet's three numbers, or the refusal's.
+// The sheet's three numbers, or the refusal's, by which the outside knows it.
 fn numbers(record: &[u8]) -> Result<(u32, u32, u32), u8> {
     Sheet::try_from(record)
         .map(|sheet| (sheet.packets, sheet.cells, sheet.hold))

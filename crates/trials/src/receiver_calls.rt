@@ -4,7 +4,7 @@ use receiver::{Missed, Receiver};
 use stage::Stage;
 use std::process::Abort;
 
-// A value and no closure, since one table is tried over piles of several types.
+// A value and no closure, since one table is tried over piles of several types. The few lines that are as a line's would be longer as a trait.
 #[derive(Clone, Copy)]
 pub enum Call {
     // With the codes of mode, constellation, rate and guard.

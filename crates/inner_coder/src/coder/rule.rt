@@ -17,8 +17,11 @@ use refusal::Refusal;
 use settings::Rate;
 use stage::{Fault, Passed, Stage};
 
+// The second unit of a bit disagreed with its first.
+const DISAGREES: Fault = Fault { stage: 1, cause: 4 };
+
 impl InnerCoder {
-    // For the code of a rate.
+    // For the code of a rate, known or not, as the outside gives it; `of` takes the rate.
     pub fn new(rate: u8) -> Option<InnerCoder>
         ensures model { known_model model_of result ≡ inner_coder (rate_read rate) }
         ensures sends { known_sending sending_of result ≡ new_sending (inner_coder (rate_read rate)) }
@@ -140,7 +143,7 @@ impl Stage for InnerCoder {
         if self.second {
             self.second = false;
             if unit != output_y(self.hearing.register) {
-                self.arrived = Err(Fault { stage: 1, cause: 4 });
+                self.arrived = Err(DISAGREES);
             }
             return Ok(());
         }

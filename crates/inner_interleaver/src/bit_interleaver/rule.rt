@@ -20,7 +20,7 @@ use stage::{Fault, Passed, Stage};
 const BITS: usize = 756;
 
 impl BitInterleaver {
-    // For the code of a constellation.
+    // For the code of a constellation, known or not, as the outside gives it; `of` takes the constellation.
     pub fn new(constellation: u8) -> Option<BitInterleaver>
         ensures model { known_model (λ s. bit_interleaving s.constellation) result ≡ bit_interleaver (constellation_read constellation) }
         ensures sends { known_sending sending_of result ≡ new_sending (bit_interleaver (constellation_read constellation)) }

@@ -20,7 +20,7 @@ use settings::{Constellation, Mode};
 use stage::{Fault, Stage};
 
 impl SymbolInterleaver {
-    // For the codes of a mode and of a constellation.
+    // For the codes of a mode and of a constellation, known or not, as the outside gives them; `of` takes the values.
     pub fn new(mode: u8, constellation: u8) -> Option<SymbolInterleaver>
         ensures model { known_model model_of result ≡ symbol_interleaver (mode_read mode) (constellation_read constellation) }
         ensures sends { known_sending sending_of result ≡ new_sending (symbol_interleaver (mode_read mode) (constellation_read constellation)) }
