@@ -40,9 +40,9 @@ symbol_interleaver (Err refusal) c = unknown
 abbrev pub idle : Mode → Parity → Sending
 idle m p = block_sending opposite (encode m) (symbol_cells m) [] p []
 
--- a side moves symbols by its parity in turn: the first `have` words are gathered, or the moved ones wait from the place `at` on
+-- a side moves symbols by its parity in turn: words are gathered, or the moved ones wait from the place `at` on
 abbrev pub side_of : Side → Sending
-side_of s = block_sending opposite (encode s.mode) (symbol_cells s.mode) (drop s.at (take (symbol_cells s.mode) s.moved)) s.parity (take s.have s.words)
+side_of s = block_sending opposite (encode s.mode) (symbol_cells s.mode) (drop s.at (take (symbol_cells s.mode) s.moved)) s.parity s.words.items
 
 abbrev pub model_of : SymbolInterleaver → Model
 model_of s = symbol_interleaving s.out.mode s.out.constellation

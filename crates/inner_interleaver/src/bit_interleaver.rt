@@ -1,4 +1,5 @@
 // The bit interleaver's two sides: each gathers a block, and works out what waits of it unit by unit.
+// No type stands over both: one has bits in and words out, and the other the reverse, each from places of its own.
 ghost use Rattle.std.specs.Prelude.{ℕ, ◌*◌, ◌<◌, ◌≤◌, slice_index};
 ghost use Rattle.settings.specs.Constellation.{word_bits};
 

@@ -1,7 +1,6 @@
 // One side of the symbol interleaver: it gathers the words of a symbol, and gives them in their new order.
-ghost use Rattle.std.specs.Prelude.{◌≡◌, ℕ, ◌+◌, ◌^◌, ◌<◌, ◌++◌, drop, nat_lt, slice_index};
+ghost use Rattle.std.specs.Prelude.{◌≡◌, ℕ, ◌+◌, ◌^◌, ◌<◌, ◌++◌, drop, length, nat_lt, slice_index};
 ghost use Rattle.address.specs.Address.{addresses_of};
-ghost use Rattle.permute.specs.Parity.{opposite};
 ghost use Rattle.permute.specs.Permuted.{permuted};
 ghost use Rattle.settings.specs.Constellation.{word_bits};
 ghost use Rattle.settings.specs.Mode.{symbol_cells};
@@ -9,6 +8,7 @@ ghost use Rattle.stage.specs.Model.{answer, offered, some, first, sent, BelowSom
 
 use super::limits::limit;
 use address::Addresses;
+use arrayvec::ArrayVec;
 use permute::{Parity, permute};
 use refusal::Refusal;
 use settings::{Constellation, Mode};
@@ -17,24 +17,23 @@ use settings::{Constellation, Mode};
 pub struct Side {
     mode: Mode,
     constellation: Constellation,
-    // The first `have` words of a symbol are gathered, or the moved words of a whole one wait from the place `at` on.
-    // An `ArrayVec` of the words gathered says `have` too, and costs a tenth of all sending.
-    words: [u8; 6048],
-    have: usize,
+    // Words of a symbol are gathered, or the moved words of a whole one wait from the place `at` on.
+    words: ArrayVec<u8, 6048>,
     moved: [u8; 6048],
     at: usize,
     // How the symbol will be moved: an even symbol that is heard moves as an odd one that is sent.
     parity: Parity,
-    ghost short: { have < symbol_cells mode },
+    ghost short: { length words.items < symbol_cells mode },
     // All that is held are words of v bits.
-    ghost gathered: { (k : ℕ) → slice_index words k < 2 ^ word_bits constellation },
+    ghost gathered: { (k : ℕ) → slice_index words.items k < 2 ^ word_bits constellation },
     ghost waiting: { (k : ℕ) → slice_index moved k < 2 ^ word_bits constellation },
 }
 
-fn reorder(addresses: &Addresses, parity: Parity, words: &[u8; 6048], moved: &mut [u8; 6048])
+fn reorder(addresses: &Addresses, parity: Parity, words: &[u8], moved: &mut [u8; 6048])
+    requires { length words.now ≡ symbol_cells addresses.now.mode }
     ensures { moved.new ≡ permuted parity (addresses_of addresses.now.mode) 0 words.now ++ drop (symbol_cells addresses.now.mode) moved.old }
 {
-    // The stores are long enough for every symbol.
+    // Both are long enough for the symbol.
     let _ = permute(addresses, parity, words, moved);
 }
 
@@ -49,8 +48,7 @@ impl Side {
         Side {
             mode,
             constellation,
-            words: [0; 6048],
-            have: 0,
+            words: ArrayVec::new(),
             moved: [0; 6048],
             at: 6048,
             parity,
@@ -62,7 +60,7 @@ impl Side {
         ensures constellation { self.new.constellation ≡ self.old.constellation }
         ensures side { side_of self.new ≡ idle self.old.mode parity }
     {
-        self.have = 0;
+        self.words.clear();
         self.at = 6048;
         self.parity = parity;
     }
@@ -89,22 +87,6 @@ impl Side {
         self.at < self.symbol()
     }
 
-    // The symbol is whole: its moved words wait, and the next one has the other parity.
-    fn turn_over(&mut self, addresses: &Addresses)
-        requires { addresses.now.mode ≡ self.old.mode }
-        ensures mode { self.new.mode ≡ self.old.mode }
-        ensures constellation { self.new.constellation ≡ self.old.constellation }
-        ensures have { self.new.have ≡ 0 }
-        ensures moved { self.new.moved ≡ permuted self.old.parity (addresses_of self.old.mode) 0 self.old.words ++ drop (symbol_cells self.old.mode) self.old.moved }
-        ensures at { self.new.at ≡ 0 }
-        ensures parity { self.new.parity ≡ opposite self.old.parity }
-    {
-        reorder(addresses, self.parity, &self.words, &mut self.moved);
-        self.have = 0;
-        self.at = 0;
-        self.parity = self.parity.other();
-    }
-
     pub(crate) fn offer(&mut self, addresses: &Addresses, unit: u8) -> Result<(), Refusal>
         requires { addresses.now.mode ≡ self.old.mode }
         ensures mode { self.new.mode ≡ self.old.mode }
@@ -118,11 +100,15 @@ impl Side {
         if self.waits() {
             return Err(Refusal::SomethingWaits);
         }
-        self.words[self.have] = unit;
-        if self.have + 1 < self.symbol() {
-            self.have += 1;
-        } else {
-            self.turn_over(addresses);
+        let symbol = self.symbol();
+        self.words.push(unit);
+        // A whole symbol's moved words wait, and the next one has the other parity.
+        if self.words.len() == symbol {
+            let words = self.words.as_slice();
+            reorder(addresses, self.parity, words, &mut self.moved);
+            self.words.clear();
+            self.at = 0;
+            self.parity = self.parity.other();
         }
         Ok(())
     }

@@ -14,7 +14,7 @@ returns c =
     let moved = c.args.moved.now in
     let front = permuted c.args.parity hs 0 words in
     let size : length hs ≡ symbol_cells m = (addresses_permute m).size in
-    let from : length hs ≤ length words = omega (arith, size, words_fit m, c.told-words) in
+    let from : length hs ≤ length words = omega (arith, size, c.requires) in
     let to : length hs ≤ length moved = omega (arith, size, words_fit m, c.told-moved) in
     c.permute.ensures.buffer 0
     ∙ cond-false (short hs words moved) moved (front ++ drop (length hs) moved)
