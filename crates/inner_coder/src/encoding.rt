@@ -19,7 +19,7 @@ pub(crate) struct Coded {
 }
 
 // Writes what is sent of a register into the front of the output, and answers how many units that is.
-// X and Y have an arm each: to ask for the first unit of either costs two to three of a hundred instructions of all sending.
+// X and Y have an arm each: to ask for the first unit of either costs one to three of a hundred instructions of all sending.
 fn emit(sent: Sent, register: u8, output: &mut [u8]) -> usize
     requires { 2 ≤ length output.old }
     ensures count { result ≡ length (emitted sent register) }
