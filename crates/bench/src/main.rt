@@ -15,9 +15,11 @@ mod work;
 
 use job::Job;
 use perform::perform;
+use receiver::Missed;
 use relay::Stop;
 use std::process::ExitCode;
 use std::{env, io};
+use text::Ended;
 
 fn run(rt: &HostRuntime) -> Result<(), Stop> {
     let words: Vec<String> = env::args(rt)?.collect(rt.alloc())?;
@@ -36,7 +38,7 @@ fn main(rt: HostRuntime) -> io::Result<ExitCode> {
     match run(&rt) {
         Ok(()) => Ok(ExitCode::SUCCESS),
         Err(Stop::Refused(refusal)) => {
-            println!(rt; "{refusal}")?;
+            print!(rt; "{}", Ended(Missed::Refused(refusal)))?;
             Ok(ExitCode::SUCCESS)
         }
         Err(stop) => {

@@ -70,7 +70,7 @@ impl fmt::Display for Returned {
     }
 }
 
-// What ended a hearing.
+// What ended a hearing, or a whole job.
 #[derive(Clone, Copy)]
 pub struct Ended(pub Missed);
 
