@@ -1,5 +1,5 @@
 -- What waits in a line or in a receiver, as its calls know it.
-use Rattle.std.specs.Prelude.{◌≡◌, ℕ, ◌-◌, ◌^◌, min, List, [], length}
+use Rattle.std.specs.Prelude.{◌≡◌, ℕ, ◌-◌, ◌^◌, min, List, [], length, drop}
 use Rattle.broadcast.specs.LineSteps as line
 use Rattle.broadcast.specs.Receiver.{Next, nothing, next}
 use Rattle.broadcast.specs.ReceiverSteps as receiver
@@ -15,6 +15,11 @@ abbrev pub emptied : line.Line → line.Line
 emptied line.idle = line.idle
 emptied (line.opened s n side) = line.opened s n (record { waits = []; future = side.future })
 emptied (line.closing s waits) = line.closing s []
+
+-- The line l without its first n cells is l'.
+pub record Without (n : ℕ) (l l' : line.Line) : Type 0 where
+  pub rest_is : cells_in l' ≡ drop n (cells_in l)
+  pub line_is : emptied l' ≡ emptied l
 
 -- The line l is emptied, which is l' then, and n of its cells were counted, up to the largest number of 64 bits.
 pub record Emptied (l l' : line.Line) (n : ℕ) : Type 0 where

@@ -6,6 +6,7 @@ use Rattle.relay.proofs.sending.drain.Given as goal
 
 abbrev pub invariant-loop-count : goal.invariant-loop-count
 invariant-loop-count g l = record {
+  fixed : g.P.Stage.model l.line.feed.pile ≡ g.P.Stage.model l.initial.line.feed.pile;
   long : length l.buffer ≡ 4096;
   draining : Draining (view g.P.Stage.model g.P.Stage.sending l.initial.line) (view g.P.Stage.model g.P.Stage.sending l.line) l.cells;
 }
