@@ -5,6 +5,7 @@ ghost use Rattle.std.specs.Prelude.{◌≡◌, ◌+◌, ◌-◌, ◌^◌, min, l
 ghost use Rattle.broadcast.specs.Receiver.{nothing};
 ghost use Rattle.receiver.specs.View.{view};
 ghost use Rattle.relay.specs.Waiting.{ready_in};
+ghost use Rattle.relay.specs.Listening.{ears_of, Collected, Heard, Put};
 
 use super::sink::Sink;
 use receiver::{Missed, Receiver};
@@ -38,6 +39,8 @@ impl<P: Stage, S: Sink> Ears<P, S> {
 
     // Collects until nothing more waits.
     pub fn collect(&mut self) -> io::Result<()>
+        ensures fixed { P.Stage.model self.new.receiver.gatherer.pile ≡ P.Stage.model self.old.receiver.gatherer.pile }
+        ensures collected { Collected (P.Stage.model self.old.receiver.gatherer.pile) (ears_of P.Stage.receiving self.old) (ears_of P.Stage.receiving self.new) result }
         ensures cells { self.new.cells ≡ self.old.cells }
         ensures all { OnOk result (self.new.missed ≡ None → ready_in (view P.Stage.receiving self.new.receiver) ≡ nothing) }
     {
@@ -59,7 +62,9 @@ impl<P: Stage, S: Sink> Ears<P, S> {
 
     // A cell is refused while a packet waits, so one is looked for only then.
     fn hear(&mut self, cell: u8) -> io::Result<()>
-        ensures { OnOk result (self.new.missed ≡ None → self.new.cells ≡ min (self.old.cells + 1) (2 ^ 64 - 1)) }
+        ensures fixed { P.Stage.model self.new.receiver.gatherer.pile ≡ P.Stage.model self.old.receiver.gatherer.pile }
+        ensures heard { Heard (P.Stage.model self.old.receiver.gatherer.pile) cell (ears_of P.Stage.receiving self.old) (ears_of P.Stage.receiving self.new) result }
+        ensures cells { OnOk result (self.new.missed ≡ None → self.new.cells ≡ min (self.old.cells + 1) (2 ^ 64 - 1)) }
     {
         let mut answer = self.receiver.hear(cell);
         if let Err(Refusal::SomethingWaits) = answer {
@@ -69,9 +74,7 @@ impl<P: Stage, S: Sink> Ears<P, S> {
         match answer {
             Ok(()) => self.cells = self.cells.saturating_add(1),
             Err(refusal) => {
-                if self.missed.is_none() {
-                    self.missed = Some(Missed::Refused(refusal));
-                }
+                self.missed = self.missed.or(Some(Missed::Refused(refusal)));
             }
         }
         Ok(())
@@ -80,7 +83,9 @@ impl<P: Stage, S: Sink> Ears<P, S> {
 
 impl<P: Stage, S: Sink> Sink for Ears<P, S> {
     fn put(&mut self, units: &[u8]) -> io::Result<()>
-        ensures { OnOk result (self.new.missed ≡ None → self.new.cells ≡ min (self.old.cells + length units.now) (2 ^ 64 - 1)) }
+        ensures fixed { P.Stage.model self.new.receiver.gatherer.pile ≡ P.Stage.model self.old.receiver.gatherer.pile }
+        ensures put { Put (P.Stage.model self.old.receiver.gatherer.pile) units.now (ears_of P.Stage.receiving self.old) (ears_of P.Stage.receiving self.new) result }
+        ensures cells { OnOk result (self.new.missed ≡ None → self.new.cells ≡ min (self.old.cells + length units.now) (2 ^ 64 - 1)) }
     {
         for cell in units {
             if self.missed.is_some() {
