@@ -2,6 +2,7 @@
 use Rattle.std.proofs.Common.{◌≡◌, ℕ, zero, suc, ◌+◌, ◌-◌, ◌*◌, ◌/◌, ◌%◌, ◌^◌, ◌<◌, ◌≤◌, [], ◌∷◌, ◌++◌, length, get_or, drop, sym, refl, ap, ◌∙◌, ap₂, arith, shr-shr}
 use lib.Bits.{bit_xor, xor_shr, xor_mod}
 use lib.Pow.{field, mod-mod-pow, shl-shr, shr_mod}
+use Rattle.reed.specs.Code.{Bytes}
 use Rattle.reed.specs.Field.{sums}
 use Rattle.reed.specs.Registers.{bytes_of, sixteen}
 
@@ -12,6 +13,14 @@ length_bytes (suc n) x = ap suc (length_bytes n x)
 
 pub length-sixteen : (x : ℕ) → length (sixteen x) ≡ 16
 length-sixteen x = length_bytes 16 x
+
+bytes_below : (n x : ℕ) → Bytes (bytes_of n x)
+unfolding bytes_of
+bytes_below zero x = tt
+bytes_below (suc n) x = (omega arith, bytes_below n x)
+
+pub bytes-sixteen : (x : ℕ) → Bytes (sixteen x)
+bytes-sixteen x = bytes_below 16 x
 
 pub bytes_xor : (n x y : ℕ) → bytes_of n (bit_xor x y) ≡ sums (bytes_of n x) (bytes_of n y)
 unfolding bytes_of

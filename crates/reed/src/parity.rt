@@ -1,7 +1,7 @@
 // The parity of a message that comes byte by byte (EN 300 744, clause 4.3.2): the remainder of message(x) x^16 by g(x) so far.
 // Input: the message's bytes, first one highest. Output: sixteen bytes, first one highest.
 ghost use Rattle.std.specs.Prelude.{◌≡◌, [], ◌∷◌, ◌++◌, length, drop, slice_index};
-ghost use Rattle.reed.specs.Code.{remainder, stepped};
+ghost use Rattle.reed.specs.Code.{remainder, stepped, Bytes};
 
 use crate::rows::row;
 use std::marker::Model;
@@ -58,7 +58,8 @@ impl Parity {
     // One more byte of the message.
     pub fn push(&mut self, byte: u8)
         ensures parity { self.new ≡ stepped self.old byte }
-        ensures sixteen { length self.new ≡ 16 }
+        ensures sixteen { (length self.old ≡ 16) × (length self.new ≡ 16) }
+        ensures bytes { Bytes self.old × Bytes self.new }
     {
         let factor = byte ^ self.first();
         self.register = (self.register << 8) ^ row(factor);
@@ -68,6 +69,8 @@ impl Parity {
     pub fn shift(&mut self) -> u8
         ensures first { result ≡ slice_index self.old 0 }
         ensures rest { self.new ≡ drop 1 self.old ++ 0 ∷ [] }
+        ensures sixteen { (length self.old ≡ 16) × (length self.new ≡ 16) }
+        ensures bytes { Bytes self.old × Bytes self.new }
     {
         let byte = self.first();
         self.register <<= 8;

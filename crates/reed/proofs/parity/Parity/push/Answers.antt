@@ -1,8 +1,8 @@
-use Rattle.std.proofs.Common.{◌*◌, ◌%◌, ◌^◌, [], ◌∷◌, ◌++◌, drop, ap, ◌∙◌, ap₂, arith}
+use Rattle.std.proofs.Common.{◌*◌, ◌%◌, ◌^◌, [], ◌∷◌, ◌++◌, length, drop, sym, ap, ◌∙◌, ap₂, subst, arith}
 use lib.Bits.{bit_xor, xor_lt}
-use Rattle.reed.specs.Code.{taps}
+use Rattle.reed.specs.Code.{taps, Bytes}
 use Rattle.reed.specs.Field.{scaled, sums}
-use Rattle.reed.proofs.Registering.{bytes_xor, length-sixteen, sixteen_moved}
+use Rattle.reed.proofs.Registering.{bytes_xor, bytes-sixteen, length-sixteen, sixteen_moved}
 use Rattle.reed.proofs.parity.Parity.push.Goals as goal
 
 pub invariant_of-self : goal.invariant_of-self
@@ -15,5 +15,6 @@ returns c =
           ∙ ap₂ sums
           (sixteen_moved c.self.inside.register ∙ ap (λ bytes. drop 1 bytes ++ 0 ∷ []) c.self.view_is)
           (c.row.ensures ∙ ap (λ first. scaled (bit_xor c.args.byte first) taps) c.first.ensures);
-      sixteen = length-sixteen _;
+      sixteen = (sym (ap length c.self.view_is) ∙ length-sixteen _, length-sixteen _);
+      bytes = (subst Bytes c.self.view_is (bytes-sixteen _), bytes-sixteen _);
     }
