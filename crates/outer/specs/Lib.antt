@@ -1,4 +1,5 @@
 pub mod Arrived
+pub mod Faults
 pub mod OuterCoder
 pub mod Protection
 pub mod Branches

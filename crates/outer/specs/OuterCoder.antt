@@ -8,6 +8,7 @@ use Rattle.stage.specs.Model.{Heard, Model, Sending, Receiving, clean, silence, 
 use Rattle.holds.specs.Capped.{capped}
 use Rattle.stage.specs.Waiting.{listed}
 use Rattle.outer.specs.Arrived.{arrived_heard}
+pub use Rattle.outer.specs.Faults.{failed_root}
 use Rattle.outer.specs.declared.outer_coder.OuterCoder.{OuterCoder}
 
 -- Sending: how many bytes of the packet have gone, and the remainder that they leave.
@@ -32,9 +33,6 @@ coded = gives passes progressed
 unfoldable pub vanishes : ℕ → List ℕ → Bool
 vanishes zero block = true
 vanishes (suc i) block = value (power i) block == 0 && vanishes i block
-
-abbrev pub failed_root : Fault
-failed_root = record { stage = 1; cause = 2 }
 
 abbrev pub checked : Bool → List ℕ → Heard
 checked true block = clean (take 188 block)

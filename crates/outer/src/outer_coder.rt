@@ -1,6 +1,8 @@
 // The outer coder as a stage (EN 300 744, clause 4.3.2): after every 188 bytes come the sixteen of their parity.
 // Input: bytes. Output: bytes, 204 for 188; receiving gives 188 for 204, or cause 2.
-ghost use Rattle.std.specs.Prelude.{◌≡◌, ℕ, ◌<◌, length, Some, None, Ok};
+ghost use Rattle.std.specs.Prelude.{◌≡◌, ℕ, ◌<◌, ◌≤◌, length, Some, None, Ok};
+ghost use Rattle.std.specs.Result.{ForErr};
+ghost use Rattle.outer.specs.Faults.{failed_root};
 
 use crate::due::Due;
 use arrayvec::ArrayVec;
@@ -22,8 +24,10 @@ pub struct OuterCoder {
     block: ArrayVec<u8, 204>,
     arrived: Result<Option<usize>, Fault>,
     ghost begun: { sent < 188 },
+    ghost room: { length due ≤ 16 },
     ghost short: { arrived ≡ Ok None → length block.items < 204 },
     ghost within: { (at : ℕ) → arrived ≡ Ok (Some at) → at < length block.items },
+    ghost cause: { ForErr arrived (λ fault. fault ≡ failed_root) },
 }
 
 impl OuterCoder {

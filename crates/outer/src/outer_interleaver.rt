@@ -1,6 +1,8 @@
 // The outer interleaver as a stage (EN 300 744, clause 4.3.2): twelve branches with delays of 0, 204, .. 2244 bytes.
 // Input: bytes. Output: bytes, one for each; receiving drops the first 2244.
 ghost use Rattle.std.specs.Prelude.{◌≡◌, ◌≤◌};
+ghost use Rattle.std.specs.Result.{ForErr};
+ghost use Rattle.outer.specs.Branches.{unreached};
 
 use crate::bank::Bank;
 use refusal::Refusal;
@@ -25,6 +27,7 @@ pub struct OuterInterleaver {
     // The byte that waits, or the fault.
     arrived: Result<Option<u8>, Fault>,
     ghost counted: { count ≤ 2244 },
+    ghost cause: { ForErr arrived (λ fault. fault ≡ unreached) },
 }
 
 impl OuterInterleaver {

@@ -1,10 +1,6 @@
 // The serializer as a stage: each byte becomes eight bits, highest first.
 // Input: bytes. Output: bits.
-ghost use Rattle.std.specs.Prelude.{◌≡◌, []};
-ghost use Rattle.outer.specs.Serializer.{serializer as serializer_model, serial_sending, serial_receiving, bits_of, same, byte_of};
-ghost use Rattle.stage.specs.Model.{new_sending, new_receiving};
-ghost use Rattle.outer.specs.Serializing.{serializer_rule};
-ghost use Rattle.stage.proofs.Blocks.{blocks_sends, blocks_hears};
+ghost use Rattle.std.specs.Prelude.{◌≡◌, ◌<◌, ◌≤◌, [], length, All};
 
 use crate::bits::Bits;
 use crate::octet::Octet;
@@ -18,9 +14,15 @@ pub struct Serializer {
     leaving: Bits,
     arriving: Octet,
     back: Option<u8>,
+    ghost within: { length leaving ≤ 8 },
+    ghost short: { length arriving < 8 },
+    ghost small: { All (λ bit. bit < 2) leaving × All (λ bit. bit < 2) arriving },
 }
 
 impl Serializer {
+    ghost use Rattle.stage.specs.Model.{new_sending, new_receiving};
+    ghost use Rattle.outer.specs.Serializer.{serializer as serializer_model, serial_sending, serial_receiving};
+
     pub fn new() -> Serializer
         ensures sends { serial_sending result ≡ new_sending serializer_model }
         ensures hears { serial_receiving result ≡ new_receiving serializer_model }
@@ -34,6 +36,10 @@ impl Serializer {
 }
 
 impl Stage for Serializer {
+    ghost use Rattle.outer.specs.Serializer.{serializer as serializer_model, serial_sending, serial_receiving, bits_of, same, byte_of};
+    ghost use Rattle.outer.specs.Serializing.{serializer_rule};
+    ghost use Rattle.stage.proofs.Blocks.{blocks_sends, blocks_hears};
+
     ghost model = { λ _. serializer_model };
 
     ghost sending = { serial_sending };
