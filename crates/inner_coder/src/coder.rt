@@ -1,6 +1,9 @@
 // The inner coder's two sides.
-ghost use Rattle.std.specs.Prelude.{◌≡◌};
+ghost use Rattle.std.specs.Prelude.{◌≡◌, ◌/◌};
+ghost use Rattle.std.specs.Option.{ForSome};
+ghost use Rattle.std.specs.Result.{ForOk, ForErr};
 ghost use Rattle.stage.specs.Model.{BelowOk};
+ghost use Rattle.inner_coder.specs.Convolution.{disagrees};
 
 use super::convolution::Walk;
 use super::puncturing::Left;
@@ -20,4 +23,6 @@ pub struct InnerCoder {
     arrived: Result<Option<u8>, Fault>,
     ghost one_rate: { hearing.rate ≡ sending.rate },
     ghost small: { ∥ BelowOk 2 arrived ∥₁ },
+    ghost highest: { ForOk arrived (λ heard. ForSome heard (λ bit. bit ≡ hearing.register / 64)) },
+    ghost cause: { ForErr arrived (λ fault. fault ≡ disagrees) },
 }
