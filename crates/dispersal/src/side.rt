@@ -9,8 +9,8 @@ use refusal::Refusal;
 
 #[derive(Drop)]
 pub struct Side {
-    noise: Noise,
-    waits: Option<u8>,
+    pub(crate) noise: Noise,
+    pub(crate) waits: Option<u8>,
 }
 
 impl Side {
