@@ -13,3 +13,5 @@ mod packets;
 mod receiver_calls;
 #[cfg(test)]
 mod receiver_trials;
+#[cfg(test)]
+mod refusal_numbers;
